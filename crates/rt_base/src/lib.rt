@@ -1,13 +1,16 @@
-// A library with one function.
+//! Values that every layer shares: rectangles, cells, points and turns, lists and texts, and ledgers that count.
 #![tactic(auto)]
 
-ghost use Rattle.std.specs.Prelude.{◌≡◌};
-ghost use Rattle.rt_base.specs.Echo.{echo_of};
+mod ledger;
+mod list;
+mod memory;
+mod plane;
+mod text;
+mod turns;
 
-// The `ensures` clause is the contract: what `echo` returns is `echo_of` of its argument, a definition
-// in `specs/Echo.antt`, which a caller's clause can cite too.
-pub fn echo(x: usize) -> usize
-    ensures { result ≡ echo_of x }
-{
-    x
-}
+pub use ledger::{Pivots, Reads};
+pub use list::List;
+pub use memory::OutOfMemory;
+pub use plane::{Axis, Cell, Orient, Point, Rect, gap_x, gap_y};
+pub use text::Text;
+pub use turns::turn;
