@@ -1,0 +1,10 @@
+//! Rows: linear inequalities over the positions of strips, and the names that the templates give them.
+#![tactic(auto)]
+
+mod name;
+mod positions;
+mod row;
+
+pub use name::Name;
+pub use positions::Positions;
+pub use row::{Row, Term, Var};
