@@ -1,6 +1,6 @@
 -- Cells of the plane: the cell x y is the unit square whose lower left corner is (x, y).
 -- What a mask covers is a fact about x and y.
-use Rattle.std.specs.Prelude.{◌≡◌, ℤ, pos, ◌+ℤ◌, ◌-ℤ◌, ◌⊎◌}
+use Rattle.std.specs.Prelude.{◌≡◌, ℤ, pos, ◌+ℤ◌, ◌⊎◌}
 
 -- the row at a height: the columns that are covered there
 abbrev pub row_of : (ℤ → ℤ → Type 0) → ℤ → ℤ → Type 0

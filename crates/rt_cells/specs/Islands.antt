@@ -1,5 +1,5 @@
 -- Lists of rectangles of one mask of which no two touch.
-use Rattle.std.specs.Prelude.{◌≡◌, ℤ, pos, ◌+ℤ◌, ◌≤ℤ◌, ◌<ℤ◌, ◌⊎◌, List, Contains}
+use Rattle.std.specs.Prelude.{◌≡◌, ℤ, ◌+ℤ◌, ◌≤ℤ◌, ◌⊎◌, List, Contains}
 use Rattle.rt_cells.specs.Line.{gap_of}
 use Rattle.rt_cells.specs.Rectangles.{Rectangle, IsNonempty, ShareCellOrSide}
 
@@ -20,4 +20,4 @@ pub record AreIslands (w s : ℤ) (rectangles : List Rectangle) : Type 0 where
   pub wide : (r : Rectangle) → Contains rectangles r → (r.left +ℤ w) ≤ℤ r.right
   pub tall : (r : Rectangle) → Contains rectangles r → (r.bottom +ℤ w) ≤ℤ r.top
   pub apart : (r q : Rectangle) → Contains rectangles r → Contains rectangles q
-    → (r ≡ q) ⊎ ((s ≤ℤ columns_between r q) ⊎ (s ≤ℤ rows_between r q))
+      → (r ≡ q) ⊎ ((s ≤ℤ columns_between r q) ⊎ (s ≤ℤ rows_between r q))

@@ -1,5 +1,5 @@
 -- Places of a line. A place is a whole number: the unit between that number and the next one.
-use Rattle.std.specs.Prelude.{◌≡◌, ℤ, pos, ◌+ℤ◌, ◌-ℤ◌, ◌≤ℤ◌, ◌<ℤ◌}
+use Rattle.std.specs.Prelude.{ℤ, pos, ◌-ℤ◌, ◌≤ℤ◌, ◌<ℤ◌}
 use Rattle.std.specs.Int.{int_max, int_min}
 
 -- the place lies in the interval from low up to, and without, high
@@ -28,3 +28,7 @@ between p q = int_max (pos 0) (int_max ((q -ℤ p) -ℤ pos 1) ((p -ℤ q) -ℤ 
 -- how many places lie strictly between two intervals, 0 where they meet or adjoin
 abbrev pub gap_of : ℤ → ℤ → ℤ → ℤ → ℤ
 gap_of low high low' high' = int_max (pos 0) (int_max (low' -ℤ high) (low -ℤ high'))
+
+-- the place of an interval that is nearest to another place
+abbrev pub nearest_place : ℤ → ℤ → ℤ → ℤ
+nearest_place low high other = int_max low (int_min (high -ℤ pos 1) other)

@@ -1,5 +1,5 @@
 -- Rectangles of cells, and what a list of them covers.
-use Rattle.std.specs.Prelude.{◌≡◌, ℕ, ℤ, pos, ◌+ℤ◌, ◌*ℤ◌, ◌<ℤ◌, ◌⊎◌, List, Contains, AllPairs}
+use Rattle.std.specs.Prelude.{◌≡◌, ℤ, ◌*ℤ◌, ◌<ℤ◌, ◌⊎◌, List, Contains}
 use Rattle.rt_cells.specs.Line.{Within}
 use Rattle.rt_cells.specs.Cells.{ShareSide}
 

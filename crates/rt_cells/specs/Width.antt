@@ -8,7 +8,7 @@ use Rattle.rt_cells.specs.Cells.{row_of, transposed}
 pub record KeepsWidthAlongRows (w : ℤ) (cells : ℤ → ℤ → Type 0) : Type 0 where
   pub runs : (y low high : ℤ) → IsRun (row_of cells y) low high → w ≤ℤ (high -ℤ low)
   pub shared : (y low high low' high' : ℤ) → IsRun (row_of cells y) low high → IsRun (row_of cells (y +ℤ pos 1)) low' high'
-    → int_max low low' <ℤ int_min high high' → w ≤ℤ (int_min high high' -ℤ int_max low low')
+      → int_max low low' <ℤ int_min high high' → w ≤ℤ (int_min high high' -ℤ int_max low low')
 
 -- the width rule, along rows and along columns
 pub record KeepsWidth (w : ℤ) (cells : ℤ → ℤ → Type 0) : Type 0 where

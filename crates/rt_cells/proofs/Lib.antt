@@ -1,0 +1,6 @@
+pub mod Lines
+pub mod Times
+pub mod Breaches
+pub mod Families
+pub mod Separate
+pub mod Islands

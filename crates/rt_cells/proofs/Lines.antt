@@ -1,0 +1,108 @@
+-- Lemmas on places of a line: walks, and the place of one interval that is nearest to another.
+use Rattle.std.proofs.Common.{◌≡◌, ℕ, zero, suc, ◌+◌, ◌-◌, ℤ, pos, ◌+ℤ◌, ◌-ℤ◌, ◌≤ℤ◌, ◌<ℤ◌, ◌⊎◌, refl, subst, arith}
+use Rattle.std.proofs.lemmas.Int.{ints, clamps, by_lt_z}
+use Rattle.std.specs.Int.{int_max, int_min}
+use borrow.Author.Differences.{up, down}
+use mathlib.Core.Logic.{inl, inr}
+use Rattle.rt_cells.specs.Line.{Within, between, gap_of, nearest_place}
+use Rattle.rt_cells.specs.Cells.{Adjacent}
+
+-- how far one place lies after another
+pub distance : (x u : ℤ) → x ≤ℤ u → (n : ℕ) × (u ≡ x +ℤ pos n)
+distance x u h = ((up u + down x) - (up x + down u), omega (arith, ints))
+
+-- a place between the ends lies in the interval
+pub within : (low high z : ℤ) → low ≤ℤ z → z <ℤ high → Within low high z
+within low high z h k = record { from = h; to = k }
+
+-- the first place of an interval lies in it
+pub first_place : (low high : ℤ) → low <ℤ high → Within low high low
+first_place low high h = within low high low (omega (arith, ints)) h
+
+-- the last place of an interval lies in it
+pub last_place : (low high : ℤ) → low <ℤ high → Within low high (high -ℤ pos 1)
+last_place low high h = within low high (high -ℤ pos 1) (omega (arith, ints)) (omega (arith, ints))
+
+-- the place before an interval doesn't lie in it
+pub not_before : (low high : ℤ) → Within low high (low -ℤ pos 1) → ⊥
+not_before low high h = omega (arith, ints)
+
+-- the place after an interval doesn't lie in it
+pub not_after : (low high : ℤ) → Within low high high → ⊥
+not_after low high h = omega (arith, ints)
+
+-- a place is one after the one before it
+pub one_before : (z : ℤ) → z ≡ (z -ℤ pos 1) +ℤ pos 1
+one_before z = omega (arith, ints)
+
+-- what is below is at most
+pub at_most : (p q : ℤ) → p <ℤ q → p ≤ℤ q
+at_most p q h = omega (arith, ints)
+
+-- two numbers that are each at most the other are equal
+pub antisymmetric : (a b : ℤ) → a ≤ℤ b → b ≤ℤ a → a ≡ b
+antisymmetric a b h k = omega (arith, ints)
+
+upwards : (P : ℤ → Type 0) (low high : ℤ) → ((z t : ℤ) → Within low high z → Within low high t → Adjacent z t → P z → P t)
+    → (n : ℕ) (x u : ℤ) → u ≡ x +ℤ pos n → low ≤ℤ x → u <ℤ high → P x → P u
+upwards P low high step zero x u e h k p = let s : x ≡ u = omega (arith, ints) in subst P s p
+upwards P low high step (suc n) x u e h k p =
+    upwards P low high step n (x +ℤ pos 1) u (omega (arith, ints)) (omega (arith, ints)) k
+    (step x (x +ℤ pos 1) (within _ _ _ h (omega (arith, ints))) (within _ _ _ (omega (arith, ints)) (omega (arith, ints))) (inl refl) p)
+
+downwards : (P : ℤ → Type 0) (low high : ℤ) → ((z t : ℤ) → Within low high z → Within low high t → Adjacent z t → P z → P t)
+    → (n : ℕ) (x u : ℤ) → x ≡ u +ℤ pos n → low ≤ℤ u → x <ℤ high → P x → P u
+downwards P low high step zero x u e h k p = let s : x ≡ u = omega (arith, ints) in subst P s p
+downwards P low high step (suc n) x u e h k p =
+    downwards P low high step n (x -ℤ pos 1) u (omega (arith, ints)) h (omega (arith, ints))
+    (step x (x -ℤ pos 1) (within _ _ _ (omega (arith, ints)) k) (within _ _ _ (omega (arith, ints)) (omega (arith, ints))) (inr (omega (arith, ints))) p)
+
+-- what passes between neighbours of an interval passes between any two of its places
+pub passed_along : (P : ℤ → Type 0) (low high : ℤ) → ((z t : ℤ) → Within low high z → Within low high t → Adjacent z t → P z → P t)
+    → (x u : ℤ) → Within low high x → Within low high u → P x → P u
+passed_along P low high step x u h k p =
+    by_lt_z u x
+    (λ l. let d = distance u x (omega (arith, ints)) in downwards P low high step d.0 x u d.1 k.from h.to p)
+    (λ l. let d = distance x u l in upwards P low high step d.0 x u d.1 h.from k.to p)
+
+-- the nearest place of an interval is one of its places
+pub nearest_within : (low high other : ℤ) → low <ℤ high → Within low high (nearest_place low high other)
+nearest_within low high other h = within _ _ _ (omega (arith, ints, clamps)) (omega (arith, ints, clamps))
+
+-- of a place up to the first place of an interval, the first is the nearest
+pub nearest_first : (low high other : ℤ) → low <ℤ high → other ≤ℤ low → nearest_place low high other ≡ low
+nearest_first low high other h k = omega (arith, ints, clamps)
+
+-- of a place after an interval, the last is the nearest
+pub nearest_last : (low high other : ℤ) → low <ℤ high → high ≤ℤ other → nearest_place low high other ≡ high -ℤ pos 1
+nearest_last low high other h k = omega (arith, ints, clamps)
+
+-- of a place in an interval, it is itself the nearest
+pub nearest_inside : (low high other : ℤ) → Within low high other → nearest_place low high other ≡ other
+nearest_inside low high other h = omega (arith, ints, clamps)
+
+-- as many places lie between the nearest places of two intervals as between the intervals
+pub nearest_between : (low high low' high' : ℤ) → low <ℤ high → low' <ℤ high'
+    → gap_of low high low' high' ≡ between (nearest_place low high low') (nearest_place low' high' low)
+nearest_between low high low' high' h k = omega (arith, ints, clamps)
+
+-- the nearest places of two intervals that meet are one place
+pub nearest_meet : (low high low' high' : ℤ) → low <ℤ high → low' <ℤ high' → int_max low low' <ℤ int_min high high'
+    → nearest_place low' high' low ≡ nearest_place low high low'
+nearest_meet low high low' high' h k m = omega (arith, ints, clamps)
+
+nearest_after : (low high low' high' : ℤ) → low <ℤ high → low' <ℤ high' → int_max low low' ≤ℤ int_min high high' → int_min high high' ≤ℤ int_max low low' → low ≤ℤ low'
+    → nearest_place low' high' low ≡ nearest_place low high low' +ℤ pos 1
+nearest_after low high low' high' h k m n l = omega (arith, ints, clamps)
+
+nearest_before : (low high low' high' : ℤ) → low <ℤ high → low' <ℤ high' → int_max low low' ≤ℤ int_min high high' → int_min high high' ≤ℤ int_max low low' → low' <ℤ low
+    → nearest_place low high low' ≡ nearest_place low' high' low +ℤ pos 1
+nearest_before low high low' high' h k m n l = omega (arith, ints, clamps)
+
+-- the nearest places of two intervals that meet or adjoin are one place or next to each other
+pub nearest_touch : (low high low' high' : ℤ) → low <ℤ high → low' <ℤ high' → int_max low low' ≤ℤ int_min high high'
+    → (nearest_place low' high' low ≡ nearest_place low high low') ⊎ Adjacent (nearest_place low high low') (nearest_place low' high' low)
+nearest_touch low high low' high' h k m =
+    by_lt_z (int_max low low') (int_min high high')
+    (λ s. inl (nearest_meet low high low' high' h k s))
+    (λ s. by_lt_z low' low (λ l. inr (inr (nearest_before low high low' high' h k m s l))) (λ l. inr (inl (nearest_after low high low' high' h k m s l))))
