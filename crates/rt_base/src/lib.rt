@@ -5,6 +5,8 @@ mod ledger;
 mod list;
 mod memory;
 mod plane;
+#[cfg(test)]
+mod tests;
 mod text;
 mod turns;
 

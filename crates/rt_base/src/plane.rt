@@ -87,4 +87,3 @@ pub fn gap_y(a: &Rect, b: &Rect) -> i64
         0
     }
 }
-

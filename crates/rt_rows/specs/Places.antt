@@ -1,5 +1,5 @@
 -- The values that positions give to the variables.
-use Rattle.std.specs.Prelude.{ℕ, ℤ, pos, Option, Some, None, slice_index_or, unwrap_or}
+use Rattle.std.specs.Prelude.{ℤ, pos, slice_index_or, unwrap_or}
 use Rattle.rt_rows.specs.declared.row.Var.{Var}
 use Rattle.rt_rows.specs.declared.row.Var.TheVariants.{L, R, B, T, Width, Height, Axis}
 use Rattle.rt_rows.specs.declared.positions.Positions.{Positions}

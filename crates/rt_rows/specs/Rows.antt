@@ -1,5 +1,5 @@
 -- Rows over whole numbers: a value for each variable either meets a row or doesn't.
-use Rattle.std.specs.Prelude.{ℕ, ℤ, pos, negsuc, neg_ℤ, ◌+ℤ◌, ◌*ℤ◌, ◌≤ℤ◌, List, [], ◌∷◌, Option, Some, None}
+use Rattle.std.specs.Prelude.{ℤ, pos, negsuc, neg_ℤ, ◌+ℤ◌, ◌*ℤ◌, ◌≤ℤ◌, List, [], ◌∷◌, Option, Some, None}
 use Rattle.rt_rows.specs.declared.row.Var.{Var}
 use Rattle.rt_rows.specs.declared.row.Term.{Term}
 use Rattle.rt_rows.specs.declared.row.Row.{Row}
@@ -30,4 +30,5 @@ at_most var most = record { terms = Some (record { var = var; times = negsuc 0 }
 abbrev pub beyond : Var → Var → ℤ → Row
 beyond first second by = record {
   terms = Some (record { var = second; times = pos 1 }) ∷ Some (record { var = first; times = negsuc 0 }) ∷ None ∷ [];
-  least = by }
+  least = by;
+}

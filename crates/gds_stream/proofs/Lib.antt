@@ -1,0 +1,9 @@
+pub mod Joined
+pub mod Numbers
+pub mod Texts
+pub mod Again
+pub mod OwnLoops
+pub mod Placing
+pub mod Grammatical
+pub mod Contextual
+pub mod Holding

@@ -1,0 +1,118 @@
+use super::*;
+use std::alloc::Global;
+use std::test::Fail;
+
+// What each orientation makes of the point (3, 1): reflected or not, the quarters, and the point that it comes to.
+const TURNS: [(bool, u8, (i64, i64)); 8] = [
+    (false, 0, (3, 1)),
+    (false, 1, (-1, 3)),
+    (false, 2, (-3, -1)),
+    (false, 3, (1, -3)),
+    (true, 0, (3, -1)),
+    (true, 1, (1, 3)),
+    (true, 2, (-3, 1)),
+    (true, 3, (-1, -3)),
+];
+
+const SQUARE: Rect = Rect {
+    x1: 0,
+    y1: 0,
+    x2: 4,
+    y2: 4,
+};
+
+const BESIDE: Rect = Rect {
+    x1: 7,
+    y1: 0,
+    x2: 9,
+    y2: 4,
+};
+
+const SHARING: Rect = Rect {
+    x1: 2,
+    y1: 1,
+    x2: 9,
+    y2: 3,
+};
+
+const AT_A_CORNER: Rect = Rect {
+    x1: 4,
+    y1: 4,
+    x2: 6,
+    y2: 5,
+};
+
+const APART: Rect = Rect {
+    x1: -8,
+    y1: -9,
+    x2: -2,
+    y2: -6,
+};
+
+#[test]
+fn turns_a_point_in_eight_ways(rt: HostRuntime) {
+    for (reflect, quarters, want) in TURNS {
+        assert!(rt; quarters < 4);
+        let orient = Orient { reflect, quarters };
+        assert_eq!(rt; turn(orient, (3, 1)), want, "at {reflect}, {quarters}");
+    }
+}
+
+#[test]
+fn gaps_of_rectangles(rt: HostRuntime) {
+    for (other, across, upwards) in [
+        (BESIDE, 3, 0),
+        (SHARING, 0, 0),
+        (AT_A_CORNER, 0, 0),
+        (APART, 2, 6),
+    ] {
+        assert_eq!(rt; gap_x(&SQUARE, &other), across);
+        assert_eq!(rt; gap_x(&other, &SQUARE), across);
+        assert_eq!(rt; gap_y(&SQUARE, &other), upwards);
+        assert_eq!(rt; gap_y(&other, &SQUARE), upwards);
+    }
+}
+
+fn text(alloc: Global, bytes: &[u8]) -> Result<Option<Text>, Fail> {
+    Ok(Text::of(List::of(Vec::from_slice(alloc, bytes)?)))
+}
+
+#[test]
+fn a_text_is_of_printable_bytes(rt: HostRuntime) -> Result<(), Fail> {
+    let ends = text(rt.alloc(), &[32, 126])?.ok_or("both are printable")?;
+    assert_eq!(rt; ends.as_slice(), [32, 126].as_slice());
+    assert!(rt; text(rt.alloc(), &[])?.is_some());
+    assert!(rt; text(rt.alloc(), &[65, 31])?.is_none());
+    assert!(rt; text(rt.alloc(), &[127, 65])?.is_none());
+    Ok(())
+}
+
+#[test]
+fn a_list_keeps_its_items_in_order(rt: HostRuntime) -> Result<(), Fail> {
+    let mut list = List::new(rt.alloc());
+    assert!(rt; list.as_slice().is_empty());
+    for cell in [Cell { x: 5, y: -1 }, Cell { x: 2, y: 7 }] {
+        list.push(cell)?;
+    }
+    let want = [Cell { x: 5, y: -1 }, Cell { x: 2, y: 7 }];
+    assert_eq!(rt; list.as_slice(), want.as_slice());
+    Ok(())
+}
+
+#[test]
+fn ledgers_count(rt: HostRuntime) {
+    let mut reads = Reads::new("a reader");
+    let mut pivots = Pivots::new();
+    assert_eq!(rt; (reads.count(), pivots.count()), (0, 0));
+    reads.raise();
+    reads.raise();
+    pivots.raise();
+    assert_eq!(rt; (reads.count(), pivots.count()), (2, 1));
+}
+
+#[test]
+fn names_what_was_lacking(rt: HostRuntime) -> Result<(), Fail> {
+    let text = format!(in rt.alloc(); "{OutOfMemory}")?;
+    assert_eq!(rt; text.as_str(), "out of memory");
+    Ok(())
+}

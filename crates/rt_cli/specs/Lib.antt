@@ -1,0 +1,4 @@
+pub mod Words
+pub mod Outside
+pub mod Given
+pub mod Answers

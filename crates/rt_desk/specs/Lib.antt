@@ -1,0 +1,5 @@
+pub mod Cause
+pub mod Desk
+pub mod Entries
+pub mod Memory
+pub mod OnDisk

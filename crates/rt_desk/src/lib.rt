@@ -1,0 +1,11 @@
+//! The outside: files, standard output and their faults, behind the trait `Desk`; a desk in memory and
+//! a desk over the files and the standard output of the program.
+#![tactic(auto)]
+
+mod in_memory;
+mod on_disk;
+mod outside;
+
+pub use in_memory::{MemoryDesk, names_differ};
+pub use on_disk::FileDesk;
+pub use outside::{Desk, DeskError};

@@ -1,0 +1,11 @@
+pub mod Exactly
+pub mod Sums
+pub mod Lines
+pub mod Cuts
+pub mod Rows
+pub mod Seen
+pub mod Across
+pub mod Upwards
+pub mod Columns
+pub mod Written
+pub mod Trial

@@ -1,0 +1,5 @@
+pub mod Items
+pub mod Lines
+pub mod Views
+pub mod Placing
+pub mod Trial

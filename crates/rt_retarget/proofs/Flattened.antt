@@ -1,0 +1,125 @@
+-- The layout that a written cell draws.
+use Rattle.std.proofs.Common.{◌≡◌, ℕ, suc, zero, ◌+◌, ◌<◌, ◌≤◌, ℤ, pos, ◌+ℤ◌, ◌*ℤ◌, ◌<ℤ◌, ◌≤ℤ◌, List, [], ◌∷◌, ◌++◌, length, map, Some, None, Option, refl, ap, ◌∙◌, sym, subst, arith}
+use Rattle.std.specs.Prelude.{slice_get}
+use Rattle.std.specs.List.{AllZip, AllByRecursion}
+use Rattle.std.proofs.lemmas.Int.{ints}
+use Rattle.std.proofs.lemmas.List.{append-nil}
+use Rattle.rt_base.specs.declared.plane.Point.{Point}
+use Rattle.rt_cells.specs.Rectangles.{Rectangle, IsNonempty}
+use Rattle.gds_stream.specs.declared.cell.Flat.{Flat}
+use Rattle.gds_stream.specs.declared.cell.Shape.{Shape}
+use Rattle.gds_stream.specs.declared.cell.Note.{Note}
+use Rattle.gds_stream.specs.declared.library.Element.{Element}
+use Rattle.gds_stream.specs.declared.library.Element.TheVariants.{Boundary}
+use Rattle.gds_stream.specs.declared.library.Library.{Library}
+use Rattle.gds_stream.specs.Written.{five_points, IsMadeOf, IsLabelOf, OneCell}
+use Rattle.rt_tech.specs.declared.table.Mask.{Mask}
+use Rattle.rt_tech.specs.declared.table.Tech.{Tech}
+use Rattle.rt_tech.specs.Tech.{pair_of, mask_at, mask_count}
+use Rattle.rt_rows.specs.declared.row.Var.{Var}
+use Rattle.rt_template.specs.Strips.{Placed, mask_of}
+use Rattle.rt_template.specs.Drawing.{drawn_area, drawn_from}
+use Rattle.rt_carry.specs.Shapes.{shape_of, layer_of_mask, datatype_of_mask}
+use Rattle.rt_retarget.specs.Layout.{IsMaskOfPairIn, IsMaskOfPair, corners_of, IsItem, IsFlatLayout}
+use Rattle.rt_retarget.specs.Thin.{IsShapeOn, area_of_shape}
+
+-- the item of a shape on a mask is that of the element made of it
+item_of : (tech : Tech) (element : Element) (shape : Shape) (item : Placed) → IsMadeOf element shape → IsShapeOn tech shape item → IsItem tech element item
+item_of tech element shape item made on = record {
+  offset = made.0;
+  layer = shape.layer;
+  datatype = shape.datatype;
+  is_polygon = made.1 ∙ ap (λ (r : Rectangle). Boundary made.0 shape.layer shape.datatype (corners_of r)) (sym on.is_area);
+  on_mask = on.on_mask;
+  nonempty = subst IsNonempty (sym on.is_area) on.shape_area.nonempty;
+}
+
+items_of : (tech : Tech) (elements : List Element) (shapes : List Shape) (layout : List Placed) → AllZip IsMadeOf elements shapes → AllZip (IsShapeOn tech) shapes layout → AllZip (IsItem tech) elements layout
+items_of tech [] [] [] a b = tt
+items_of tech [] [] (p ∷ layout) a b = absurd b
+items_of tech [] (s ∷ shapes) layout a b = absurd a
+items_of tech (e ∷ elements) [] layout a b = absurd a
+items_of tech (e ∷ elements) (s ∷ shapes) [] a b = absurd b
+items_of tech (e ∷ elements) (s ∷ shapes) (p ∷ layout) a b = (item_of tech e s p a.0 b.0, items_of tech elements shapes layout a.1 b.1)
+
+no_labels : (labels : List Element) (texts : List Note) → texts ≡ [] → AllZip IsLabelOf labels texts → labels ≡ []
+no_labels [] texts e a = refl
+no_labels (l ∷ labels) [] e a = absurd a
+no_labels (l ∷ labels) (t ∷ texts) e a = cc
+
+append_none : (xs ys : List Element) → ys ≡ [] → xs ++ ys ≡ xs
+append_none xs ys e = rw (e, append-nil xs) refl
+
+-- the layout of a cell of shapes alone
+pub flat_layout : (tech : Tech) (library : Library) (cell : Flat) (layout : List Placed) → OneCell library cell → cell.texts ≡ []
+    → ((elements : List Element) → AllZip IsMadeOf elements cell.shapes → AllZip (IsItem tech) elements layout)
+    → IsFlatLayout tech library cell.name layout
+flat_layout tech library cell layout one none items = record {
+  elements = one.drawn;
+  one_structure = ap (λ (l : Library). l.structures) one.is_library
+      ∙ ap (λ (elements : List Element). record { name = cell.name; elements = elements } ∷ []) (append_none one.drawn one.labels (no_labels one.labels cell.texts none one.are_texts));
+  items = items one.drawn one.are_shapes;
+}
+
+pub source_layout : (tech : Tech) (library : Library) (cell : Flat) (layout : List Placed) → OneCell library cell → cell.texts ≡ []
+    → AllZip (IsShapeOn tech) cell.shapes layout → IsFlatLayout tech library cell.name layout
+source_layout tech library cell layout one none all = flat_layout tech library cell layout one none (λ elements made. items_of tech elements cell.shapes layout made all)
+
+-- a rectangle on a mask of the table, with a cell
+pub record IsDrawable (tech : Tech) (item : Placed) : Type 0 where
+  pub there : item.mask < mask_count tech
+  pub nonempty : IsNonempty item.area
+
+there_is_some : (masks : List Mask) (m : ℕ) → m < length masks → slice_get masks m ≡ None → ⊥
+there_is_some [] m h e = absurd (omega arith)
+there_is_some (mask ∷ masks) zero h e = cc
+there_is_some (mask ∷ masks) (suc m) h e = there_is_some masks m (omega arith) e
+
+pair_there : (tech : Tech) (m : ℕ) → m < mask_count tech → IsMaskOfPair tech (layer_of_mask (mask_at tech m)) (datatype_of_mask (mask_at tech m)) m
+pair_there tech m h = found (mask_at tech m) refl
+  where
+    found : (o : Option Mask) → mask_at tech m ≡ o → IsMaskOfPair tech (layer_of_mask (mask_at tech m)) (datatype_of_mask (mask_at tech m)) m
+    found (Some mask) e = record { mask = mask; is_mask = e; pair = rw e refl }
+    found None e = absurd (there_is_some tech.masks m h e)
+
+drawn_item : (tech : Tech) (element : Element) (item : Placed) → IsMadeOf element (shape_of tech item) → IsDrawable tech item → IsItem tech element item
+drawn_item tech element item made is = record {
+  offset = made.0;
+  layer = layer_of_mask (mask_at tech item.mask);
+  datatype = datatype_of_mask (mask_at tech item.mask);
+  is_polygon = made.1;
+  on_mask = pair_there tech item.mask is.there;
+  nonempty = is.nonempty;
+}
+
+drawn_items : (tech : Tech) (elements : List Element) (drawing : List Placed) → AllZip IsMadeOf elements (map (shape_of tech) drawing) → AllByRecursion (IsDrawable tech) drawing → AllZip (IsItem tech) elements drawing
+drawn_items tech [] [] a b = tt
+drawn_items tech [] (p ∷ drawing) a b = absurd a
+drawn_items tech (e ∷ elements) [] a b = absurd a
+drawn_items tech (e ∷ elements) (p ∷ drawing) a b = (drawn_item tech e p a.0 b.0, drawn_items tech elements drawing a.1 b.1)
+
+-- the layout of a drawing
+pub drawn_layout : (tech : Tech) (library : Library) (cell : Flat) (drawing : List Placed) → OneCell library cell → cell.texts ≡ []
+    → cell.shapes ≡ map (shape_of tech) drawing → AllByRecursion (IsDrawable tech) drawing → IsFlatLayout tech library cell.name drawing
+drawn_layout tech library cell drawing one none shapes all =
+    flat_layout tech library cell drawing one none
+    (λ elements made. drawn_items tech elements drawing (subst (AllZip IsMadeOf elements) shapes made) all)
+
+-- each rectangle of a drawing can be drawn, where its mask is there and its area has a cell
+pub drawables : (tech : Tech) (grid : ℤ) (at : Var → ℤ) (n : ℕ) (strips : List Placed)
+    → ((i : ℕ) → i < length strips → mask_of strips i < mask_count tech)
+    → ((i : ℕ) → i < length strips → IsNonempty (drawn_area grid at (n + i)))
+    → AllByRecursion (IsDrawable tech) (drawn_from grid at n strips)
+drawables tech grid at n [] masks areas = tt
+drawables tech grid at n (strip ∷ strips) masks areas = (
+  record { there = masks 0 (omega arith); nonempty = subst (λ (k : ℕ). IsNonempty (drawn_area grid at k)) (n_plus_zero n) (areas 0 (omega arith)) },
+  drawables tech grid at (suc n) strips
+      (λ i h. masks (suc i) (omega arith))
+      (λ i h. subst (λ (k : ℕ). IsNonempty (drawn_area grid at k)) (n_plus_suc n i) (areas (suc i) (omega arith))),
+)
+  where
+    n_plus_zero : (n : ℕ) → n + 0 ≡ n
+    n_plus_zero n = omega arith
+
+    n_plus_suc : (n i : ℕ) → n + suc i ≡ suc n + i
+    n_plus_suc n i = omega arith

@@ -1,0 +1,6 @@
+pub mod Extents
+pub mod Items
+pub mod Readings
+pub mod Flattened
+pub mod Assembled
+pub mod Excluded

@@ -1,0 +1,6 @@
+pub mod Layout
+pub mod Thin
+pub mod Moved
+pub mod Answers
+pub mod Making
+pub mod Exclusion

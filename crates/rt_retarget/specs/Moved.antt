@@ -1,0 +1,51 @@
+-- The relation of the headline: the written bytes are the source, moved to the target's rules, and least.
+use Rattle.std.specs.Prelude.{◌≡◌, ℕ, ℤ, List}
+use Rattle.gds_stream.specs.declared.library.Library.{Library}
+use Rattle.gds_stream.specs.Contents.{Stream}
+use Rattle.rt_rows.specs.declared.row.Var.{Var}
+use Rattle.rt_tech.specs.declared.table.Which.TheVariants.{Source, Target}
+use Rattle.rt_tables.specs.Tables.{IsTechOf, HaveSameNames}
+use Rattle.rt_tables.specs.Sizes.{IsSizesOf}
+use Rattle.rt_template.specs.declared.job.Job.{Job}
+use Rattle.rt_template.specs.Strips.{Placed}
+use Rattle.rt_template.specs.Across.{strips_of, IsLeastAcross}
+use Rattle.rt_template.specs.Upwards.{IsLeastUpwards}
+use Rattle.rt_template.specs.Drawing.{drawn, AreStripsOf}
+use Rattle.rt_template.specs.Rules.{BreaksNoRule, BreaksNoRuleOnGrid}
+use Rattle.rt_retarget.specs.Layout.{IsFlatLayout}
+
+-- the strips of the job at the positions, in database units of the target
+abbrev pub drawing_of : Job → (Var → ℤ) → List Placed
+drawing_of job at = drawn job.target.grid at (strips_of job)
+
+-- what is moved: the source is a stream whose layout breaks no source rule, and the job has its strips and both tables
+pub record IsMovedJob (source stable ttable sizes cell : List ℕ) (library : Library) (job : Job) : Type 0 where
+  pub source_table : IsTechOf Source stable job.source
+  pub target_table : IsTechOf Target ttable job.target
+  pub same_masks : HaveSameNames job.source job.target
+  pub named : IsSizesOf sizes cell
+  pub stream : Stream source library
+  pub layout : List Placed
+  pub flat : IsFlatLayout job.source library cell layout
+  pub sound : BreaksNoRule job.source layout
+  pub strips : AreStripsOf layout (strips_of job)
+
+-- what is written: a stream whose layout is the drawing, rectangle by rectangle, and breaks no target rule
+pub record IsMovedOut (out cell : List ℕ) (library : Library) (job : Job) (at : Var → ℤ) : Type 0 where
+  pub moved : Library
+  pub stream : Stream out moved
+  pub library_name : moved.name ≡ library.name
+  pub units : moved.units ≡ job.target.units
+  pub flat : IsFlatLayout job.target moved cell (drawing_of job at)
+  pub clean : BreaksNoRuleOnGrid job.target (drawing_of job at)
+
+-- the bytes of out are the source, moved: its strips at the least positions that meet both templates
+pub record Moved (source stable ttable sizes out : List ℕ) : Type 0 where
+  pub cell : List ℕ
+  pub library : Library
+  pub job : Job
+  pub at : Var → ℤ
+  pub from : IsMovedJob source stable ttable sizes cell library job
+  pub across : IsLeastAcross job at
+  pub upwards : IsLeastUpwards job at at
+  pub to : IsMovedOut out cell library job at

@@ -1,0 +1,13 @@
+//! The whole job: from the bytes of the four files to the bytes of the moved cell.
+#![tactic(auto)]
+
+mod answer;
+mod files;
+mod laws;
+mod layout;
+mod making;
+mod moving;
+
+pub use answer::{Fault, Outcome};
+pub use laws::{done_is_sound, done_is_thin};
+pub use moving::retarget;

@@ -1,0 +1,5 @@
+pub mod Entries
+pub mod Lists
+pub mod Lookups
+pub mod Readings
+pub mod Same

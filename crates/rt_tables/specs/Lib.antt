@@ -1,0 +1,4 @@
+pub mod Document
+pub mod Masks
+pub mod Sizes
+pub mod Tables
