@@ -1,11 +1,11 @@
 -- A fetch that fails behind some that didn't.
-use Rattle.std.proofs.Common.{◌≡◌, ℕ, ◌-◌, ◌^◌, ◌<◌, ◌≤◌, ◌⊎◌, inl, inr, List, [], ◌∷◌, ◌++◌, length, Option, Some, None, Result, Ok, Err, Vec, Global, IfSome, refl, arith, subst, sym}
+use Rattle.std.proofs.Common.{◌≡◌, ℕ, ◌≤◌, inl, inr, List, [], ◌∷◌, ◌++◌, length, Option, Some, None, Err, IfSome, refl, arith, subst}
 use Rattle.std.specs.Prelude.{All}
 use Rattle.std.proofs.lemmas.List.Elements.{All-nil, All-cons, All-append}
 use Rattle.rt_desk.specs.declared.outside.DeskError.{DeskError}
 use Rattle.rt_desk.specs.declared.outside.DeskError.TheVariants.{Failed, Missing, TooLong, OutOfMemory}
 use Rattle.rt_desk.specs.Desk.{Files, Rose, IsFetched, FetchAnswer}
-use Rattle.rt_cli.specs.Outside.{file_limit, IsReadable, CannotFetch, FetchFails}
+use Rattle.rt_cli.specs.Outside.{file_limit, IsReadable, FetchFails}
 
 -- the files of these names were read, where the desk tells its files
 abbrev pub AreRead : Option Files → List (List ℕ) → Type 0

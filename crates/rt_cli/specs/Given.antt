@@ -4,6 +4,7 @@ use Rattle.rt_cli.specs.declared.fetching.Inputs.{Inputs}
 use Rattle.rt_cli.specs.Words.{Names}
 use Rattle.rt_cli.specs.Outside.{Contents}
 
+-- the names as lists of bytes
 abbrev pub names_in : Retarget → Names
 names_in r = record { source = r.source.now; stable = r.stable.now; ttable = r.ttable.now; sizes = r.sizes.now; out = r.out.now; cert = r.cert.now }
 

@@ -1,5 +1,5 @@
 -- What a run sees of the outside, and the files that it fetches.
-use Rattle.std.specs.Prelude.{◌≡◌, ℕ, ◌<◌, ◌≤◌, ◌⊎◌, List, [], ◌∷◌, ◌++◌, length, All, Option, Some, None, IsSomeAnd, IfSome}
+use Rattle.std.specs.Prelude.{◌≡◌, ℕ, ◌<◌, ◌≤◌, ◌⊎◌, List, [], ◌∷◌, ◌++◌, length, All, Option, Some, None, IsSomeAnd}
 use Rattle.rt_desk.specs.declared.outside.DeskError.{DeskError}
 use Rattle.rt_desk.specs.declared.outside.DeskError.TheVariants.{Failed, Missing, TooLong, OutOfMemory}
 use Rattle.rt_desk.specs.Desk.{Files, Rose, IsFetched}
@@ -51,13 +51,14 @@ pub record IsFirstUnreadable (files : Files) (names : List (List ℕ)) (name : L
   pub readable : All (IsReadable files) before
   pub unreadable : IsUnreadable files name
 
--- why the files weren't fetched: a fetch was a fault, or one of them can't be read
+-- the desk tells its files, and one of those named can't be read
 pub record SomeUnreadable (files : Option Files) (names : List (List ℕ)) : Type 0 where
   pub told : Files
   pub is_told : files ≡ Some told
   pub name : List ℕ
   pub first : IsFirstUnreadable told names name
 
+-- why the files weren't fetched: a fetch was a fault, or the desk tells its files and one of them can't be read
 abbrev pub CannotFetch : Option Files → ℕ → ℕ → List (List ℕ) → Type 0
 CannotFetch files old new names = Rose old new ⊎ SomeUnreadable files names
 

@@ -4,6 +4,8 @@
 mod answer;
 mod fetching;
 mod running;
+#[cfg(test)]
+mod tests;
 mod words;
 
 use rt_desk::FileDesk;

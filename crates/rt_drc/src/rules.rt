@@ -11,9 +11,9 @@ use rt_tech::{Mask, RuleError, RuleName, Tech};
 use rt_template::Strip;
 
 /// Whether a drawing of separate strips breaks no rule of a table, or the first rule that it breaks, with two cells
-/// that show it. The order is that of the masks, each mask's width before its space. Strips and table are in source
-/// database units. The strips stand in any order. The call takes no memory, so the error is always `Broken`.
-/// (This project's own.)
+/// that show it. The order is that of the masks, each mask's width before its space. Strips and table are in the same
+/// units: source database units where a source is checked. The strips stand in any order. The call takes no memory,
+/// so the error is always `Broken`. (This project's own.)
 pub fn check_rules(strips: &[Strip], tech: &Tech) -> Result<(), RuleError>
     requires separate { AreSeparateStrips (map placed strips.now) }
     requires masks { AreOnMasksOf tech.now (map placed strips.now) }

@@ -6,8 +6,8 @@ ghost use Rattle.rt_path.specs.Rounds.{IsBetween, IsDemand};
 use crate::difference::Difference;
 use std::cmp::Ordering;
 
-// Whether the rows that raised the values last, followed back from `start`, go round in a circle with a gain.
-// Then no values meet them, however large. `false` claims nothing: the rounds go on, up to the cap if need be.
+/// Whether the rows that raised the values last, followed back from `start`, go round in a circle with a gain.
+/// Then no values meet them, however large. `false` claims nothing: the rounds go on, up to the cap if need be.
 pub fn is_circling(
     values: &[i64],
     raisers: &[Option<usize>],

@@ -1,14 +1,11 @@
 -- From the parts of a run to the relation of the headline.
-use Rattle.std.proofs.Common.{◌≡◌, ℕ, zero, suc, ◌+◌, ◌<◌, ◌≤◌, ℤ, pos, ◌+ℤ◌, ◌*ℤ◌, ◌<ℤ◌, ◌≤ℤ◌, List, [], ◌∷◌, length, map, refl, ap, ◌∙◌, sym, subst, arith}
-use Rattle.std.specs.List.{AllZip, AllByRecursion}
+use Rattle.std.proofs.Common.{◌≡◌, ℕ, ◌+◌, ℤ, pos, ◌+ℤ◌, ◌<ℤ◌, ◌≤ℤ◌, List, map, ap, ◌∙◌, sym, subst, arith}
 use Rattle.std.proofs.lemmas.Int.{ints}
-use Rattle.std.proofs.lemmas.List.{length-map}
 use Rattle.rt_cells.specs.Rectangles.{IsNonempty}
 use Rattle.rt_cells.proofs.Times.{times_lt}
 use Rattle.gds_stream.specs.declared.cell.Flat.{Flat}
 use Rattle.gds_stream.specs.declared.library.Library.{Library}
 use Rattle.gds_stream.specs.Contents.{Stream}
-use Rattle.gds_stream.specs.Written.{written, FitsWriter, OneCell}
 use Rattle.gds_stream.proofs.Holding.{written_holds}
 use Rattle.rt_rows.specs.declared.row.Var.{Var}
 use Rattle.rt_rows.specs.declared.row.Var.TheVariants.{L, R, B, T}
@@ -24,21 +21,21 @@ use Rattle.rt_template.specs.Strips.{Placed, placed}
 use Rattle.rt_template.specs.Standing.{IsStrip}
 use Rattle.rt_template.specs.Across.{strips_of, width_wanted, MeetsAcross}
 use Rattle.rt_template.specs.Upwards.{MeetsUpwards}
-use Rattle.rt_template.specs.Drawing.{drawn_area, drawn}
+use Rattle.rt_template.specs.Drawing.{drawn_area}
 use Rattle.rt_template.specs.Rules.{BreaksNoRule, IsFirstBreach}
-use Rattle.rt_carry.specs.Shapes.{shape_of, IsDrawingOf}
+use Rattle.rt_carry.specs.Shapes.{IsDrawingOf}
 use Rattle.rt_carry.proofs.Valid.{width_positive}
 use Rattle.rt_carry.proofs.Carrying.{beyond_holds, drawings_keep}
 use Rattle.rt_retarget.specs.Thin.{ThinInput, AreReadAs, IsThinLayout}
 use Rattle.rt_retarget.specs.Layout.{IsFlatLayout}
-use Rattle.rt_retarget.specs.Moved.{Moved, IsMovedJob, IsMovedOut, drawing_of}
+use Rattle.rt_retarget.specs.Moved.{Moved, IsMovedOut, drawing_of}
 use Rattle.rt_retarget.specs.declared.answer.Fault.{Fault}
 use Rattle.rt_retarget.specs.declared.answer.Fault.TheVariants.{NotBuilt, SourceRule, OutOfMemory}
 use Rattle.rt_retarget.specs.Answers.{IsDone, IsFaultOf, IsSourceFaultOf}
 use Rattle.rt_retarget.specs.Making.{IsThinJob, IsJobOf, IsWrittenFor, IsThinCase}
 use Rattle.rt_retarget.proofs.Readings.{one_source}
 use Rattle.rt_retarget.proofs.Items.{as_many, on_mask}
-use Rattle.rt_retarget.proofs.Flattened.{IsDrawable, source_layout, drawn_layout, drawables}
+use Rattle.rt_retarget.proofs.Flattened.{source_layout, drawn_layout, drawables}
 
 past : (low by high : ℤ) → pos 1 ≤ℤ by → (low +ℤ by) ≤ℤ high → low <ℤ high
 past low by high h k = omega (arith, ints)

@@ -1,5 +1,5 @@
 -- Files are thin input in one way, so the answers exclude each other.
-use Rattle.std.proofs.Common.{◌≡◌, ℕ, ℤ, List, subst, sym}
+use Rattle.std.proofs.Common.{◌≡◌, ℕ, List, subst}
 use Rattle.std.specs.List.{AllZip}
 use Rattle.gds_stream.specs.declared.cell.Flat.{Flat}
 use Rattle.rt_tech.specs.declared.table.Tech.{Tech}
@@ -9,7 +9,6 @@ use Rattle.rt_template.specs.Strips.{Placed}
 use Rattle.rt_template.specs.Rules.{BreaksNoRule}
 use Rattle.rt_drc.proofs.Kept.{first_breach_breaks_rule}
 use Rattle.rt_retarget.specs.Thin.{ThinInput, IsShapeOn}
-use Rattle.rt_retarget.specs.Answers.{IsDone, IsUnsound}
 use Rattle.rt_retarget.specs.Exclusion.{DoneIsSound}
 use Rattle.rt_retarget.proofs.Readings.{one_source}
 use Rattle.rt_retarget.proofs.Items.{one_layout}

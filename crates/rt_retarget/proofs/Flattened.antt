@@ -1,10 +1,8 @@
 -- The layout that a written cell draws.
-use Rattle.std.proofs.Common.{◌≡◌, ℕ, suc, zero, ◌+◌, ◌<◌, ◌≤◌, ℤ, pos, ◌+ℤ◌, ◌*ℤ◌, ◌<ℤ◌, ◌≤ℤ◌, List, [], ◌∷◌, ◌++◌, length, map, Some, None, Option, refl, ap, ◌∙◌, sym, subst, arith}
+use Rattle.std.proofs.Common.{◌≡◌, ℕ, suc, zero, ◌+◌, ◌<◌, ℤ, List, [], ◌∷◌, ◌++◌, length, map, Some, None, Option, refl, ap, ◌∙◌, sym, subst, arith}
 use Rattle.std.specs.Prelude.{slice_get}
 use Rattle.std.specs.List.{AllZip, AllByRecursion}
-use Rattle.std.proofs.lemmas.Int.{ints}
 use Rattle.std.proofs.lemmas.List.{append-nil}
-use Rattle.rt_base.specs.declared.plane.Point.{Point}
 use Rattle.rt_cells.specs.Rectangles.{Rectangle, IsNonempty}
 use Rattle.gds_stream.specs.declared.cell.Flat.{Flat}
 use Rattle.gds_stream.specs.declared.cell.Shape.{Shape}
@@ -12,16 +10,16 @@ use Rattle.gds_stream.specs.declared.cell.Note.{Note}
 use Rattle.gds_stream.specs.declared.library.Element.{Element}
 use Rattle.gds_stream.specs.declared.library.Element.TheVariants.{Boundary}
 use Rattle.gds_stream.specs.declared.library.Library.{Library}
-use Rattle.gds_stream.specs.Written.{five_points, IsMadeOf, IsLabelOf, OneCell}
+use Rattle.gds_stream.specs.Written.{IsMadeOf, IsLabelOf, OneCell}
 use Rattle.rt_tech.specs.declared.table.Mask.{Mask}
 use Rattle.rt_tech.specs.declared.table.Tech.{Tech}
-use Rattle.rt_tech.specs.Tech.{pair_of, mask_at, mask_count}
+use Rattle.rt_tech.specs.Tech.{mask_at, mask_count}
 use Rattle.rt_rows.specs.declared.row.Var.{Var}
 use Rattle.rt_template.specs.Strips.{Placed, mask_of}
 use Rattle.rt_template.specs.Drawing.{drawn_area, drawn_from}
 use Rattle.rt_carry.specs.Shapes.{shape_of, layer_of_mask, datatype_of_mask}
-use Rattle.rt_retarget.specs.Layout.{IsMaskOfPairIn, IsMaskOfPair, corners_of, IsItem, IsFlatLayout}
-use Rattle.rt_retarget.specs.Thin.{IsShapeOn, area_of_shape}
+use Rattle.rt_retarget.specs.Layout.{IsMaskOfPair, corners_of, IsItem, IsFlatLayout}
+use Rattle.rt_retarget.specs.Thin.{IsShapeOn}
 
 -- the item of a shape on a mask is that of the element made of it
 item_of : (tech : Tech) (element : Element) (shape : Shape) (item : Placed) → IsMadeOf element shape → IsShapeOn tech shape item → IsItem tech element item

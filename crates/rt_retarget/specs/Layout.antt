@@ -6,7 +6,6 @@ use Rattle.rt_cells.specs.Rectangles.{Rectangle, IsNonempty}
 use Rattle.gds_stream.specs.declared.library.Element.{Element}
 use Rattle.gds_stream.specs.declared.library.Element.TheVariants.{Boundary}
 use Rattle.gds_stream.specs.declared.library.Library.{Library}
-use Rattle.gds_stream.specs.declared.cell.Shape.{Shape}
 use Rattle.rt_tech.specs.declared.table.Mask.{Mask}
 use Rattle.rt_tech.specs.declared.table.Tech.{Tech}
 use Rattle.rt_tech.specs.Tech.{pair_of}
@@ -32,7 +31,7 @@ corners_of r =
     record { x = r.left; y = r.bottom } ∷
     []
 
--- the element is a polygon round that rectangle, on the layer and with the data type of its mask
+-- the element is a polygon round that rectangle, from its lower left corner counterclockwise, on the layer and with the data type of its mask
 pub record IsItem (tech : Tech) (element : Element) (item : Placed) : Type 0 where
   pub offset : ℕ
   pub layer : ℤ

@@ -16,7 +16,7 @@ use Rattle.rt_template.specs.Separate.{AreSeparateStrips, AreOnMasksOf, extent_s
 use Rattle.rt_retarget.specs.Thin.{AreReadAs, IsThinLayout}
 use Rattle.rt_carry.specs.Shapes.{IsDrawingOf}
 
--- a job whose strips are separate, few, and fit side by side, with valid tables that have their masks
+-- a job whose strips are separate, few, on masks of the target's table, and fit side by side, with valid tables
 pub record IsThinJob (job : Job) : Type 0 where
   pub separate : AreSeparateStrips (strips_of job)
   pub few : length job.strips ≤ 120

@@ -6,8 +6,8 @@ pub fn done_is_sound()
     ensures { DoneIsSound }
 {}
 
-/// A law for callers: files that are moved or refused for a broken rule are thin input, so that `NotBuilt` comes
-/// exactly where they aren't.
+/// A law for callers: files whose cell is moved are thin input. So are those that are refused for a broken rule, by that
+/// answer's own clause. So `NotBuilt` comes exactly where the files aren't thin input, want of memory aside.
 pub fn done_is_thin()
     ensures { DoneIsThin }
 {}

@@ -113,6 +113,7 @@ strips_of xs ys apart moved sorted =
     let back = renumbered (map placed ys) (map placed xs) (IsPermutation-sym (map placed xs) (map placed ys) moved') in
     let separate = separate_there (map placed xs) (map placed ys) there apart in
     record {
+      nonempty = separate.nonempty;
       same_cells = λ m x y. (covered_there (map placed ys) (map placed xs) back m x y, covered_there (map placed xs) (map placed ys) there m x y);
       once = λ i j one x y h g. sharing_is_one (map placed ys) separate i j one (x, y, x, y, h, g, inl (refl, refl));
       whole_runs = row_is_whole (map placed ys) separate;

@@ -1,8 +1,8 @@
--- The drawing of positions, the rules of a drawing, and which strips a drawing has.
+-- The drawing of positions, and which strips a drawing has.
 use Rattle.std.specs.Prelude.{◌≡◌, ℕ, suc, ◌<◌, ℤ, ◌*ℤ◌, ◌<ℤ◌, ◌⊎◌, ◌↔◌, List, [], ◌∷◌}
 use Rattle.rt_cells.specs.Line.{IsRun, Within}
 use Rattle.rt_cells.specs.Cells.{row_of}
-use Rattle.rt_cells.specs.Rectangles.{Rectangle, Holds, Covers}
+use Rattle.rt_cells.specs.Rectangles.{Rectangle, IsNonempty, Holds, Covers}
 use Rattle.rt_rows.specs.declared.row.Var.{Var}
 use Rattle.rt_rows.specs.declared.row.Var.TheVariants.{L, R, B, T}
 use Rattle.rt_template.specs.Strips.{Placed, strip_at, mask_of, left_of, right_of, bottom_of, top_of, areas_of}
@@ -32,9 +32,10 @@ ComesBefore strips i j = (mask_of strips i < mask_of strips j)
     × ((bottom_of strips i <ℤ bottom_of strips j)
     ⊎ ((bottom_of strips i ≡ bottom_of strips j) × (left_of strips i <ℤ left_of strips j))))
 
--- the strips of a drawing: they cover its cells once, each row of a strip is a whole run of its mask,
--- no two can be stacked into one, and they stand in order
+-- the strips of a drawing: each has a cell, they cover the drawing's cells once, each row of a strip is a whole run
+-- of its mask, no two can be stacked into one, and they stand in order
 pub record AreStripsOf (drawing strips : List Placed) : Type 0 where
+  pub nonempty : (i : ℕ) → IsStrip strips i → IsNonempty (strip_at strips i).area
   pub same_cells : (m : ℕ) (x y : ℤ) → covered_by m drawing x y ↔ covered_by m strips x y
   pub once : (i j : ℕ) → AreOfOneMask strips i j → (x y : ℤ) → Holds (strip_at strips i).area x y → Holds (strip_at strips j).area x y → i ≡ j
   pub whole_runs : (i : ℕ) → IsStrip strips i → (y : ℤ) → Within (bottom_of strips i) (top_of strips i) y

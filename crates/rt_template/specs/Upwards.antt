@@ -28,7 +28,7 @@ module _ (job : Job) (columns : Var → ℤ) where
     pub above_first : top_of (strips_of job) i ≤ℤ bottom_of (strips_of job) k
     pub below_second : top_of (strips_of job) k ≤ℤ bottom_of (strips_of job) j
 
-  -- nothing carries strip j above strip i: it isn't climbed from it, or some column of both has no strip between them
+  -- strip j is open to strip i: it isn't climbed from it, or some column of both has no strip between them
   abbrev pub AreOpen : ℕ → ℕ → Type 0
   AreOpen i j = (¬ IsClimbed (strips_of job) i j)
       ⊎ ((x : ℤ) × CoversColumn i x × CoversColumn j x × ((k : ℕ) → ¬ LiesBetween i j k x))

@@ -1,4 +1,4 @@
-use Rattle.std.proofs.Common.{◌≡◌, ◌≤◌, [], ◌∷◌, arith, ◌∙◌}
+use Rattle.std.proofs.Common.{◌≤◌, [], ◌∷◌, arith, ◌∙◌}
 use Rattle.std.proofs.lemmas.Result.{err_from_is_err_and}
 use Rattle.rt_cli.proofs.Fetches.{none_read, one_more_read, later_read, fetch_fails, later_fails}
 use Rattle.rt_cli.proofs.fetching.fetch_all.Goals as goal

@@ -1,4 +1,3 @@
-use Rattle.std.proofs.Common.{refl}
 use Rattle.std.proofs.lemmas.Result.{err_from_is_err_and}
 use Rattle.rt_retarget.proofs.Assembled.{fault_of_files, done}
 use Rattle.rt_retarget.proofs.moving.retarget.Goals as goal

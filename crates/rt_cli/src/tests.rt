@@ -1,0 +1,737 @@
+use super::*;
+use rt_desk::{MemoryDesk, names_differ};
+use std::alloc::{AllocError, Global};
+use std::test::Fail;
+
+// The stream of one rectangle, (0, 0) to (6, 6).
+const ONE_RECTANGLE: [u8; 170] = [
+    0, 6, 0, 2, 2, 88, 0, 28, 1, 2, 0, 0, 0, 0, 0, 0, 0, 0, 0, 0, 0, 0, 0, 0, 0, 0, 0, 0, 0, 0, 0,
+    0, 0, 0, 0, 8, 2, 6, 76, 73, 66, 0, 0, 20, 3, 5, 65, 16, 0, 0, 0, 0, 0, 0, 65, 16, 0, 0, 0, 0,
+    0, 0, 0, 28, 5, 2, 0, 0, 0, 0, 0, 0, 0, 0, 0, 0, 0, 0, 0, 0, 0, 0, 0, 0, 0, 0, 0, 0, 0, 0, 0,
+    8, 6, 6, 84, 79, 80, 0, 0, 4, 8, 0, 0, 6, 13, 2, 0, 1, 0, 6, 14, 2, 0, 0, 0, 44, 16, 3, 0, 0,
+    0, 0, 0, 0, 0, 0, 0, 0, 0, 6, 0, 0, 0, 0, 0, 0, 0, 6, 0, 0, 0, 6, 0, 0, 0, 0, 0, 0, 0, 6, 0, 0,
+    0, 0, 0, 0, 0, 0, 0, 4, 17, 0, 0, 4, 7, 0, 0, 4, 4, 0,
+];
+
+// The stream of no rectangle.
+const NO_RECTANGLE: [u8; 106] = [
+    0, 6, 0, 2, 2, 88, 0, 28, 1, 2, 0, 0, 0, 0, 0, 0, 0, 0, 0, 0, 0, 0, 0, 0, 0, 0, 0, 0, 0, 0, 0,
+    0, 0, 0, 0, 8, 2, 6, 76, 73, 66, 0, 0, 20, 3, 5, 65, 16, 0, 0, 0, 0, 0, 0, 65, 16, 0, 0, 0, 0,
+    0, 0, 0, 28, 5, 2, 0, 0, 0, 0, 0, 0, 0, 0, 0, 0, 0, 0, 0, 0, 0, 0, 0, 0, 0, 0, 0, 0, 0, 0, 0,
+    8, 6, 6, 84, 79, 80, 0, 0, 4, 7, 0, 0, 4, 4, 0,
+];
+
+// The bytes of a stream before its first rectangle.
+const HEAD_LENGTH: usize = 98;
+
+// The words of a retargeting.
+const WORDS: [&str; 7] = [
+    "retarget",
+    "source.gds",
+    "source.toml",
+    "target.toml",
+    "sizes.toml",
+    "out.gds",
+    "out.cert",
+];
+
+const SIZES: &str = "version = 1\ncell = \"TOP\"\nmirror = \"none\"\n";
+
+// A rectangle: its layer, then the lower left and the upper right corner.
+type Rectangle = (i16, i32, i32, i32, i32);
+
+// A rule table: its grid, and the layer, width and space of each mask.
+type Rules = (i64, &'static [(i64, i64, i64)]);
+
+// A cell: the source's and the target's rules, its rectangles, and those of the moved cell.
+#[derive(Drop)]
+struct Cell {
+    shows: &'static str,
+    source: Rules,
+    target: Rules,
+    rectangles: &'static [Rectangle],
+    moved: &'static [Rectangle],
+}
+
+const FOUR: Rules = (1, &[(1, 4, 4)]);
+
+const SIX: Rules = (1, &[(1, 6, 4)]);
+
+const THREE: Rules = (1, &[(1, 3, 3)]);
+
+const FIVE: Rules = (1, &[(21, 5, 7)]);
+
+const SPARSE: Rules = (1, &[(1, 2, 6)]);
+
+const DENSE: Rules = (1, &[(1, 8, 3)]);
+
+const TWO_MASKS: Rules = (1, &[(9, 3, 3), (3, 2, 2)]);
+
+const TWO_MASKS_MOVED: Rules = (1, &[(49, 6, 4), (43, 5, 3)]);
+
+const THREE_MASKS: Rules = (1, &[(1, 2, 2), (2, 4, 4), (3, 6, 6)]);
+
+const THREE_MASKS_MOVED: Rules = (1, &[(1, 2, 2), (2, 6, 8), (3, 3, 3)]);
+
+// Cells moved by hand: a strip's column is the space and the width times the longest chain of strips that are
+// kept left of it, and its row is the same of those that are kept below it.
+const CELLS: [Cell; 31] = [
+    Cell {
+        shows: "two in a row",
+        source: FOUR,
+        target: SIX,
+        rectangles: &[(1, 0, 0, 4, 4), (1, 8, 0, 12, 4)],
+        moved: &[(1, 0, 0, 6, 6), (1, 10, 0, 16, 6)],
+    },
+    Cell {
+        shows: "rows as far apart as the space",
+        source: FOUR,
+        target: FOUR,
+        rectangles: &[(1, 0, 0, 4, 4), (1, 10, 10, 14, 14)],
+        moved: &[(1, 0, 0, 4, 4), (1, 0, 8, 4, 12)],
+    },
+    Cell {
+        shows: "a near diagonal",
+        source: FOUR,
+        target: FOUR,
+        rectangles: &[(1, 0, 0, 4, 4), (1, 8, 6, 12, 10)],
+        moved: &[(1, 0, 0, 4, 4), (1, 8, 0, 12, 4)],
+    },
+    Cell {
+        shows: "a coarse grid",
+        source: THREE,
+        target: (5, &[(1, 30, 20)]),
+        rectangles: &[(1, 10, 0, 20, 4)],
+        moved: &[(1, 0, 0, 30, 30)],
+    },
+    Cell {
+        shows: "two in a row on a coarse grid, from a source whose grid says nothing",
+        source: (100, &[(1, 3, 3)]),
+        target: (5, &[(1, 30, 20)]),
+        rectangles: &[(1, 7, 1, 10, 9), (1, 13, 8, 19, 11)],
+        moved: &[(1, 0, 0, 30, 30), (1, 50, 0, 80, 30)],
+    },
+    Cell {
+        shows: "three in a row",
+        source: FOUR,
+        target: SIX,
+        rectangles: &[(1, 0, 0, 4, 4), (1, 8, 0, 12, 4), (1, 16, 0, 20, 4)],
+        moved: &[(1, 0, 0, 6, 6), (1, 10, 0, 16, 6), (1, 20, 0, 26, 6)],
+    },
+    Cell {
+        shows: "three in a column",
+        source: FOUR,
+        target: SIX,
+        rectangles: &[(1, 0, 0, 4, 4), (1, 0, 8, 4, 12), (1, 0, 16, 4, 20)],
+        moved: &[(1, 0, 0, 6, 6), (1, 0, 10, 6, 16), (1, 0, 20, 6, 26)],
+    },
+    Cell {
+        shows: "two in a row at negative places",
+        source: FOUR,
+        target: SIX,
+        rectangles: &[(1, -30, -20, -20, -12), (1, -10, -18, -2, -10)],
+        moved: &[(1, 0, 0, 6, 6), (1, 10, 0, 16, 6)],
+    },
+    Cell {
+        shows: "a corner above a corner, a space apart",
+        source: FOUR,
+        target: FOUR,
+        rectangles: &[(1, 0, 0, 4, 4), (1, 4, 8, 8, 12)],
+        moved: &[(1, 0, 0, 4, 4), (1, 0, 8, 4, 12)],
+    },
+    Cell {
+        shows: "a row short of the space apart",
+        source: FOUR,
+        target: FOUR,
+        rectangles: &[(1, 0, 0, 4, 4), (1, 8, 7, 12, 11)],
+        moved: &[(1, 0, 0, 4, 4), (1, 8, 0, 12, 4)],
+    },
+    Cell {
+        shows: "rows that adjoin, falling to the right",
+        source: FOUR,
+        target: FOUR,
+        rectangles: &[(1, 0, 4, 4, 8), (1, 8, 0, 12, 4)],
+        moved: &[(1, 8, 0, 12, 4), (1, 0, 0, 4, 4)],
+    },
+    Cell {
+        shows: "far stairs down",
+        source: THREE,
+        target: FIVE,
+        rectangles: &[(1, 0, 20, 3, 23), (1, 6, 10, 9, 13), (1, 12, 0, 15, 3)],
+        moved: &[(21, 0, 0, 5, 5), (21, 0, 12, 5, 17), (21, 0, 24, 5, 29)],
+    },
+    Cell {
+        shows: "near stairs up",
+        source: THREE,
+        target: FIVE,
+        rectangles: &[(1, 0, 0, 3, 3), (1, 6, 5, 9, 8), (1, 12, 10, 15, 13)],
+        moved: &[(21, 0, 0, 5, 5), (21, 12, 0, 17, 5), (21, 24, 0, 29, 5)],
+    },
+    Cell {
+        shows: "a zigzag",
+        source: THREE,
+        target: FIVE,
+        rectangles: &[(1, 0, 0, 3, 3), (1, 6, 4, 9, 7), (1, 0, 8, 3, 11)],
+        moved: &[(21, 0, 0, 5, 5), (21, 12, 0, 17, 5), (21, 0, 12, 5, 17)],
+    },
+    Cell {
+        shows: "four in a row, each a little lower than the one left of it",
+        source: THREE,
+        target: FIVE,
+        rectangles: &[
+            (1, 0, 3, 3, 6),
+            (1, 6, 2, 9, 5),
+            (1, 12, 1, 15, 4),
+            (1, 18, 0, 21, 3),
+        ],
+        moved: &[
+            (21, 36, 0, 41, 5),
+            (21, 24, 0, 29, 5),
+            (21, 12, 0, 17, 5),
+            (21, 0, 0, 5, 5),
+        ],
+    },
+    Cell {
+        shows: "two by two",
+        source: FOUR,
+        target: SIX,
+        rectangles: &[
+            (1, 0, 0, 4, 4),
+            (1, 8, 0, 12, 4),
+            (1, 0, 8, 4, 12),
+            (1, 8, 8, 12, 12),
+        ],
+        moved: &[
+            (1, 0, 0, 6, 6),
+            (1, 10, 0, 16, 6),
+            (1, 0, 10, 6, 16),
+            (1, 10, 10, 16, 16),
+        ],
+    },
+    Cell {
+        shows: "far stairs up",
+        source: FOUR,
+        target: SIX,
+        rectangles: &[(1, 0, 0, 4, 4), (1, 20, 9, 24, 13), (1, 40, 18, 44, 22)],
+        moved: &[(1, 0, 0, 6, 6), (1, 0, 10, 6, 16), (1, 0, 20, 6, 26)],
+    },
+    Cell {
+        shows: "a high one beside two",
+        source: FOUR,
+        target: SIX,
+        rectangles: &[(1, 0, 0, 4, 20), (1, 8, 0, 12, 4), (1, 8, 12, 12, 16)],
+        moved: &[(1, 0, 0, 6, 6), (1, 10, 0, 16, 6), (1, 10, 10, 16, 16)],
+    },
+    Cell {
+        shows: "a long one below two",
+        source: FOUR,
+        target: SIX,
+        rectangles: &[(1, 0, 0, 20, 4), (1, 0, 8, 4, 12), (1, 16, 8, 20, 12)],
+        moved: &[(1, 0, 0, 6, 6), (1, 0, 10, 6, 16), (1, 10, 0, 16, 6)],
+    },
+    Cell {
+        shows: "a long one above three",
+        source: FOUR,
+        target: SIX,
+        rectangles: &[
+            (1, 0, 8, 20, 12),
+            (1, 0, 0, 4, 4),
+            (1, 8, 0, 12, 4),
+            (1, 16, 0, 20, 4),
+        ],
+        moved: &[
+            (1, 0, 0, 6, 6),
+            (1, 10, 0, 16, 6),
+            (1, 20, 0, 26, 6),
+            (1, 0, 10, 6, 16),
+        ],
+    },
+    Cell {
+        shows: "a near diagonal under a far one",
+        source: FOUR,
+        target: SIX,
+        rectangles: &[(1, 0, 0, 4, 4), (1, 8, 6, 12, 10), (1, 16, 14, 20, 18)],
+        moved: &[(1, 0, 0, 6, 6), (1, 10, 0, 16, 6), (1, 0, 10, 6, 16)],
+    },
+    Cell {
+        shows: "two in a row and two far above, the lower of them over the right one",
+        source: FOUR,
+        target: SIX,
+        rectangles: &[
+            (1, 0, 0, 4, 4),
+            (1, 8, 0, 12, 4),
+            (1, 8, 8, 12, 12),
+            (1, 0, 20, 4, 24),
+        ],
+        moved: &[
+            (1, 0, 0, 6, 6),
+            (1, 10, 0, 16, 6),
+            (1, 0, 10, 6, 16),
+            (1, 0, 20, 6, 26),
+        ],
+    },
+    Cell {
+        shows: "a row of two, and two between them at a near diagonal",
+        source: FOUR,
+        target: SIX,
+        rectangles: &[
+            (1, 0, 0, 4, 4),
+            (1, 30, 0, 34, 4),
+            (1, 8, 6, 12, 10),
+            (1, 16, 6, 20, 10),
+        ],
+        moved: &[
+            (1, 0, 0, 6, 6),
+            (1, 30, 0, 36, 6),
+            (1, 10, 0, 16, 6),
+            (1, 20, 0, 26, 6),
+        ],
+    },
+    Cell {
+        shows: "bricks",
+        source: FOUR,
+        target: FOUR,
+        rectangles: &[
+            (1, 4, 8, 8, 12),
+            (1, 12, 8, 16, 12),
+            (1, 0, 16, 4, 20),
+            (1, 0, 0, 4, 4),
+            (1, 8, 0, 12, 4),
+        ],
+        moved: &[
+            (1, 0, 0, 4, 4),
+            (1, 8, 0, 12, 4),
+            (1, 0, 8, 4, 12),
+            (1, 8, 8, 12, 12),
+            (1, 0, 16, 4, 20),
+        ],
+    },
+    Cell {
+        shows: "the ends of the plane",
+        source: FOUR,
+        target: SIX,
+        rectangles: &[
+            (1, 999_999_990, 999_999_990, 1_000_000_000, 1_000_000_000),
+            (
+                1,
+                -1_000_000_000,
+                -1_000_000_000,
+                -999_999_990,
+                -999_999_990,
+            ),
+        ],
+        moved: &[(1, 0, 0, 6, 6), (1, 0, 10, 6, 16)],
+    },
+    Cell {
+        shows: "rows nearer than a wide space of the source",
+        source: SPARSE,
+        target: DENSE,
+        rectangles: &[(1, 0, 0, 2, 2), (1, 8, 3, 10, 5), (1, 16, 6, 18, 8)],
+        moved: &[(1, 0, 0, 8, 8), (1, 11, 0, 19, 8), (1, 22, 0, 30, 8)],
+    },
+    Cell {
+        shows: "rows as far apart as a wide space of the source",
+        source: SPARSE,
+        target: DENSE,
+        rectangles: &[(1, 0, 0, 2, 2), (1, 3, 8, 5, 10)],
+        moved: &[(1, 0, 0, 8, 8), (1, 0, 11, 8, 19)],
+    },
+    Cell {
+        shows: "near diagonals below and above",
+        source: SPARSE,
+        target: DENSE,
+        rectangles: &[
+            (1, 0, 20, 2, 22),
+            (1, 8, 16, 10, 18),
+            (1, 16, 4, 18, 6),
+            (1, 8, 0, 10, 2),
+            (1, 0, 0, 2, 2),
+        ],
+        moved: &[
+            (1, 0, 0, 8, 8),
+            (1, 11, 0, 19, 8),
+            (1, 22, 0, 30, 8),
+            (1, 11, 11, 19, 19),
+            (1, 0, 11, 8, 19),
+        ],
+    },
+    Cell {
+        shows: "two masks over one place, in order of the table",
+        source: TWO_MASKS,
+        target: TWO_MASKS_MOVED,
+        rectangles: &[(3, 0, 0, 2, 2), (9, 0, 0, 3, 3)],
+        moved: &[(49, 0, 0, 6, 6), (43, 0, 0, 5, 5)],
+    },
+    Cell {
+        shows: "two of each of two masks, in turn",
+        source: TWO_MASKS,
+        target: TWO_MASKS_MOVED,
+        rectangles: &[
+            (3, 10, 0, 12, 2),
+            (9, 0, 0, 3, 3),
+            (3, 14, 0, 16, 2),
+            (9, 6, 2, 9, 5),
+        ],
+        moved: &[
+            (49, 0, 0, 6, 6),
+            (49, 10, 0, 16, 6),
+            (43, 0, 0, 5, 5),
+            (43, 8, 0, 13, 5),
+        ],
+    },
+    Cell {
+        shows: "three masks: the same, wider and narrower",
+        source: THREE_MASKS,
+        target: THREE_MASKS_MOVED,
+        rectangles: &[
+            (1, 0, 0, 2, 2),
+            (1, 0, 4, 2, 6),
+            (2, 0, 0, 4, 4),
+            (2, 0, 8, 4, 12),
+            (3, -6, -6, 0, 0),
+            (3, 6, 0, 12, 6),
+        ],
+        moved: &[
+            (1, 0, 0, 2, 2),
+            (1, 0, 4, 2, 6),
+            (2, 0, 0, 6, 6),
+            (2, 0, 14, 6, 20),
+            (3, 0, 0, 3, 3),
+            (3, 6, 0, 9, 3),
+        ],
+    },
+];
+
+const NARROW: &str =
+    "version = 1\ngrid = 1\nunits = \"41100000000000004110000000000000\"\nmask = [{name = \"m\", role = \"metal\", layer = 1, datatype = 0, width = 3, space = 3}]\n";
+
+const WIDE: &str =
+    "version = 1\ngrid = 1\nunits = \"41100000000000004110000000000000\"\nmask = [{name = \"m\", role = \"metal\", layer = 1, datatype = 0, width = 6, space = 4}]\n";
+
+const CUT: &str =
+    "version = 1\ngrid = 1\nunits = \"41100000000000004110000000000000\"\nmask = [{name = \"m\", role = \"cut\", layer = 1, datatype = 0, width = 3, space = 3}]\n";
+
+const OFF_GRID: &str =
+    "version = 1\ngrid = 5\nunits = \"41100000000000004110000000000000\"\nmask = [{name = \"m\", role = \"metal\", layer = 1, datatype = 0, width = 31, space = 20}]\n";
+
+const OTHER_CELL: &str = "version = 1\ncell = \"TOP2\"\nmirror = \"none\"\n";
+
+// Files that are refused.
+#[derive(Drop)]
+struct Refused {
+    shows: &'static str,
+    stable: &'static str,
+    ttable: &'static str,
+    sizes: &'static str,
+    rectangles: &'static [Rectangle],
+    more: &'static [u8],
+    status: u8,
+}
+
+const REFUSED: [Refused; 10] = [
+    Refused {
+        shows: "a shared side",
+        stable: NARROW,
+        ttable: WIDE,
+        sizes: SIZES,
+        rectangles: &[(1, 0, 0, 4, 4), (1, 4, 0, 8, 4)],
+        more: &[],
+        status: 30,
+    },
+    Refused {
+        shows: "a corner contact",
+        stable: NARROW,
+        ttable: WIDE,
+        sizes: SIZES,
+        rectangles: &[(1, 0, 0, 4, 4), (1, 4, 4, 8, 8)],
+        more: &[],
+        status: 7,
+    },
+    Refused {
+        shows: "a cut in the source's table",
+        stable: CUT,
+        ttable: WIDE,
+        sizes: SIZES,
+        rectangles: &[(1, 10, 0, 20, 4)],
+        more: &[],
+        status: 30,
+    },
+    Refused {
+        shows: "a cut in the target's table",
+        stable: NARROW,
+        ttable: CUT,
+        sizes: SIZES,
+        rectangles: &[(1, 10, 0, 20, 4)],
+        more: &[],
+        status: 30,
+    },
+    Refused {
+        shows: "a rectangle that is too narrow",
+        stable: NARROW,
+        ttable: WIDE,
+        sizes: SIZES,
+        rectangles: &[(1, 0, 0, 2, 8)],
+        more: &[],
+        status: 7,
+    },
+    Refused {
+        shows: "two rectangles that are too near",
+        stable: NARROW,
+        ttable: WIDE,
+        sizes: SIZES,
+        rectangles: &[(1, 0, 0, 4, 4), (1, 6, 6, 10, 10)],
+        more: &[],
+        status: 7,
+    },
+    Refused {
+        shows: "a target's width off its grid",
+        stable: NARROW,
+        ttable: OFF_GRID,
+        sizes: SIZES,
+        rectangles: &[(1, 10, 0, 20, 4)],
+        more: &[],
+        status: 30,
+    },
+    Refused {
+        shows: "sizes of another cell",
+        stable: NARROW,
+        ttable: WIDE,
+        sizes: OTHER_CELL,
+        rectangles: &[(1, 10, 0, 20, 4)],
+        more: &[],
+        status: 30,
+    },
+    Refused {
+        shows: "a layer of no mask",
+        stable: NARROW,
+        ttable: WIDE,
+        sizes: SIZES,
+        rectangles: &[(2, 10, 0, 20, 4)],
+        more: &[],
+        status: 30,
+    },
+    Refused {
+        shows: "a byte behind the stream",
+        stable: NARROW,
+        ttable: WIDE,
+        sizes: SIZES,
+        rectangles: &[(1, 10, 0, 20, 4)],
+        more: &[0],
+        status: 30,
+    },
+];
+
+// A word of a retargeting that is another one, and the status then.
+const OTHER_WORDS: [(usize, &str, u8); 20] = [
+    (0, "check", 2),
+    (0, "", 2),
+    (0, "retarget ", 2),
+    (1, "", 2),
+    (2, "", 2),
+    (3, "", 2),
+    (4, "", 2),
+    (5, "", 2),
+    (6, "", 2),
+    (1, "-source.gds", 2),
+    (2, "-", 2),
+    (3, "--", 2),
+    (4, "-sizes.toml", 2),
+    (5, "-out.gds", 2),
+    (6, "-out.cert", 2),
+    (5, "out.cert", 2),
+    (1, "no.gds", 11),
+    (2, "no.toml", 11),
+    (3, "no.toml", 11),
+    (4, "no.toml", 11),
+];
+
+// The files of a run.
+#[derive(Drop)]
+struct Given {
+    source: Vec<u8>,
+    stable: String,
+    ttable: String,
+    sizes: String,
+}
+
+// The stream of these rectangles.
+fn stream(alloc: Global, rectangles: &[Rectangle]) -> Result<Vec<u8>, AllocError> {
+    let mut bytes = Vec::from_slice(alloc, &ONE_RECTANGLE[..HEAD_LENGTH])?;
+    for &(layer, x1, y1, x2, y2) in rectangles {
+        bytes.extend_from_slice(&[0, 4, 8, 0, 0, 6, 13, 2])?;
+        bytes.extend_from_slice(&layer.to_be_bytes())?;
+        bytes.extend_from_slice(&[0, 6, 14, 2, 0, 0, 0, 44, 16, 3])?;
+        for place in [x1, y1, x2, y1, x2, y2, x1, y2, x1, y1] {
+            bytes.extend_from_slice(&place.to_be_bytes())?;
+        }
+        bytes.extend_from_slice(&[0, 4, 17, 0])?;
+    }
+    bytes.extend_from_slice(&[0, 4, 7, 0, 0, 4, 4, 0])?;
+    Ok(bytes)
+}
+
+// The table of these rules.
+fn table(alloc: Global, rules: &Rules) -> Result<String, AllocError> {
+    let mut text = format!(in alloc;
+        "version = 1\ngrid = {}\nunits = \"41100000000000004110000000000000\"\nmask = [\n",
+        rules.0
+    )?;
+    for (i, (layer, width, space)) in rules.1.iter().enumerate() {
+        text.push_str(format!(in alloc;
+            "{{name = \"m{i}\", role = \"metal\", layer = {layer}, datatype = 0, width = {width}, space = {space}}},\n"
+        )?.as_str())?;
+    }
+    text.push_str("]\n")?;
+    Ok(text)
+}
+
+// A source of one rectangle, from a width of 3 to one of 6.
+fn one_rectangle(alloc: Global) -> Result<Given, AllocError> {
+    Ok(Given {
+        source: stream(alloc, &[(1, 10, 0, 20, 4)])?,
+        stable: String::from_str(alloc, NARROW)?,
+        ttable: String::from_str(alloc, WIDE)?,
+        sizes: String::from_str(alloc, SIZES)?,
+    })
+}
+
+fn named(alloc: Global, name: &str, bytes: &[u8]) -> Result<(String, Vec<u8>), AllocError> {
+    let owned = String::from_str(alloc, name)?;
+    Ok((owned, Vec::from_slice(alloc, bytes)?))
+}
+
+fn desk_with(alloc: Global, given: &Given) -> Result<MemoryDesk, Fail> {
+    let mut files = Vec::new(alloc);
+    files.push(named(alloc, "source.gds", given.source.as_slice())?)?;
+    files.push(named(alloc, "source.toml", given.stable.as_bytes())?)?;
+    files.push(named(alloc, "target.toml", given.ttable.as_bytes())?)?;
+    files.push(named(alloc, "sizes.toml", given.sizes.as_bytes())?)?;
+    if names_differ(&files) {
+        Ok(MemoryDesk::new(alloc, files))
+    } else {
+        Err(Fail::from("two files of one name"))
+    }
+}
+
+// The words of a retargeting, with one of them another.
+fn words_with(alloc: Global, at: usize, word: &str) -> Result<Vec<String>, AllocError> {
+    let mut words = Vec::new(alloc);
+    for (i, old) in WORDS.iter().enumerate() {
+        words.push(String::from_str(alloc, if i == at { word } else { *old })?)?;
+    }
+    Ok(words)
+}
+
+// Whether the desk has the files of the run as they were given, and what else was stored is `out` as OUT.
+fn holds(desk: &MemoryDesk, given: &Given, out: Option<&[u8]>) -> bool {
+    desk.file("source.gds") == Some(given.source.as_slice())
+        && desk.file("source.toml") == Some(given.stable.as_bytes())
+        && desk.file("target.toml") == Some(given.ttable.as_bytes())
+        && desk.file("sizes.toml") == Some(given.sizes.as_bytes())
+        && desk.file("out.gds") == out
+        && desk.file("out.cert").is_none()
+        && desk.said().is_empty()
+}
+
+#[test]
+fn moves_one_rectangle_and_none(rt: HostRuntime) -> Result<(), Fail> {
+    let alloc = rt.alloc();
+    let words = words_with(alloc, 0, "retarget")?;
+    let mut given = one_rectangle(alloc)?;
+    let mut desk = desk_with(alloc, &given)?;
+    assert_eq!(rt; run(alloc, &words, &mut desk), Status(0));
+    assert!(rt; holds(&desk, &given, Some(&ONE_RECTANGLE)));
+    given.source = Vec::from_slice(alloc, &NO_RECTANGLE)?;
+    let mut desk = desk_with(alloc, &given)?;
+    assert_eq!(rt; run(alloc, &words, &mut desk), Status(0));
+    assert!(rt; holds(&desk, &given, Some(&NO_RECTANGLE)));
+    Ok(())
+}
+
+#[test]
+fn moves_small_cells(rt: HostRuntime) -> Result<(), Fail> {
+    let alloc = rt.alloc();
+    let words = words_with(alloc, 0, "retarget")?;
+    for cell in &CELLS {
+        let given = Given {
+            source: stream(alloc, cell.rectangles)?,
+            stable: table(alloc, &cell.source)?,
+            ttable: table(alloc, &cell.target)?,
+            sizes: String::from_str(alloc, SIZES)?,
+        };
+        let mut desk = desk_with(alloc, &given)?;
+        assert_eq!(rt; run(alloc, &words, &mut desk), Status(0), "{}", cell.shows);
+        let moved = stream(alloc, cell.moved)?;
+        assert!(rt; holds(&desk, &given, Some(&moved)), "{}", cell.shows);
+    }
+    Ok(())
+}
+
+#[test]
+fn refuses_files(rt: HostRuntime) -> Result<(), Fail> {
+    let alloc = rt.alloc();
+    let words = words_with(alloc, 0, "retarget")?;
+    for refused in &REFUSED {
+        let mut source = stream(alloc, refused.rectangles)?;
+        source.extend_from_slice(refused.more)?;
+        let given = Given {
+            source,
+            stable: String::from_str(alloc, refused.stable)?,
+            ttable: String::from_str(alloc, refused.ttable)?,
+            sizes: String::from_str(alloc, refused.sizes)?,
+        };
+        let mut desk = desk_with(alloc, &given)?;
+        let status = run(alloc, &words, &mut desk);
+        assert_eq!(rt; status, Status(refused.status), "{}", refused.shows);
+        assert!(rt; holds(&desk, &given, None), "{}", refused.shows);
+    }
+    Ok(())
+}
+
+#[test]
+fn refuses_words(rt: HostRuntime) -> Result<(), Fail> {
+    let alloc = rt.alloc();
+    let given = one_rectangle(alloc)?;
+    for &(at, word, status) in &OTHER_WORDS {
+        let words = words_with(alloc, at, word)?;
+        let mut desk = desk_with(alloc, &given)?;
+        assert_eq!(rt;
+            run(alloc, &words, &mut desk),
+            Status(status),
+            "{word} at {at}"
+        );
+        assert!(rt; holds(&desk, &given, None), "{word} at {at}");
+    }
+    Ok(())
+}
+
+#[test]
+fn refuses_too_few_or_too_many_words(rt: HostRuntime) -> Result<(), Fail> {
+    let alloc = rt.alloc();
+    let given = one_rectangle(alloc)?;
+    let mut words = words_with(alloc, 0, "retarget")?;
+    words.push(String::from_str(alloc, "more")?)?;
+    let mut desk = desk_with(alloc, &given)?;
+    assert_eq!(rt; run(alloc, &words, &mut desk), Status(2));
+    words.pop();
+    for _ in 0..WORDS.len() {
+        words.pop();
+        assert_eq!(rt; run(alloc, &words, &mut desk), Status(2));
+    }
+    assert!(rt; holds(&desk, &given, None));
+    Ok(())
+}
+
+#[test]
+fn answers_faults(rt: HostRuntime) -> Result<(), Fail> {
+    let alloc = rt.alloc();
+    let given = one_rectangle(alloc)?;
+    let words = words_with(alloc, 0, "retarget")?;
+    for (nth, status) in [(0, 11), (1, 11), (2, 11), (3, 11), (4, 12)] {
+        let mut desk = desk_with(alloc, &given)?;
+        desk.fail_at(nth)?;
+        assert_eq!(rt; run(alloc, &words, &mut desk), Status(status), "call {nth}");
+        assert!(rt; holds(&desk, &given, None), "call {nth}");
+    }
+    Ok(())
+}

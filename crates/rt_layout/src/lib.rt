@@ -1,0 +1,8 @@
+//! A flat layout: a list of rectangles for each mask, and labels.
+#![tactic(auto)]
+
+mod layout;
+#[cfg(test)]
+mod tests;
+
+pub use layout::{Label, Layout, covers};
