@@ -114,7 +114,7 @@ pub record FitsWriter (cell : Flat) : Type 0 where
   pub shapes : All FitsShape cell.shapes
   pub texts : All FitsNote cell.texts
 
--- the five points of a shape, counterclockwise from the lower left one, which is also the last
+-- the five points round a shape: from (x1, y1) by (x2, y1), (x2, y2) and (x1, y2) back to (x1, y1)
 abbrev pub five_points : Shape → List Point
 five_points s =
     record { x = s.x1; y = s.y1 } ∷

@@ -9,12 +9,12 @@ pub enum Name {
     Zero,
     /// The extent is at most 20,000,000 steps.
     Top,
-    /// A strip is as wide as its mask's width.
+    /// A strip is at least as wide as its mask's width.
     Wide(u32),
     /// A strip has a row.
     Tall(u32),
     /// The second strip keeps its distance beyond the first.
     Gap(u32, u32),
-    /// From the lowest strip of a chain to its highest it is as high as the mask's width.
+    /// From the lowest strip of a chain to its highest it is at least as high as the mask's width.
     Run(u32, u32),
 }

@@ -42,7 +42,7 @@ pub record IsName (bytes : List ℕ) : Type 0 where
   pub few : length bytes ≤ 32
   pub plain : All IsNameByte bytes
 
--- a layer or a data type that a stream can hold
+-- a layer or a data type that a table may name
 pub record IsLayer (number : ℤ) : Type 0 where
   pub low : pos 0 ≤ℤ number
   pub high : number ≤ℤ pos 32767
