@@ -7,9 +7,10 @@ ghost use Rattle.rt_desk.specs.OnDisk.{IsRead, faults_after, CountsErrors, fetch
 
 use crate::outside::{Desk, DeskError};
 use std::alloc::Global;
+use std::fs::{File, OpenOptions, Permissions};
 use std::io::{ErrorKind, Read, Write};
 use std::rt::Files;
-use std::{fs, io};
+use std::{fs, io, str};
 
 /// A desk over real files and the standard output: the trusted edge, since no proof sees what the system
 /// does. Names are paths, taken relative to the folder that the program runs in.
@@ -28,6 +29,12 @@ pub struct FileDesk<'a, R> {
 
 // How many bytes are asked of a file at a time.
 const PIECE: usize = 8192;
+
+// The most bytes of a path; the system takes none that is longer.
+const PATH_LIMIT: usize = 4096;
+
+// What is put behind the name of a file for the name of the new one that is to take its place.
+const ENDING: &[u8] = b".part";
 
 impl<'a, R: Files + Print> FileDesk<'a, R> {
     /// A desk over the files and the standard output of `rt`, which has counted no fault. It takes no
@@ -115,6 +122,77 @@ fn read_file<R: Files>(rt: &R, alloc: Global, name: &str, most: u64) -> Result<V
     read_within(&mut file, alloc, most)
 }
 
+// Makes the bytes the whole file. A plain file that is there is replaced by a new one beside it, so that it stays as
+// it was where that fails. What isn't there, and a link or a device, is written as it stands.
+fn store_file<R: Files>(rt: &R, name: &str, bytes: &[u8]) -> Result<(), DeskError>
+    ensures { IfErr result IsOfSystem }
+{
+    let mut room = [0u8; PATH_LIMIT];
+    match permissions_of(rt, name) {
+        Some(permissions) => match name_beside(&mut room, name) {
+            Some(beside) => replace_file(rt, name, beside, permissions, bytes),
+            None => Err(DeskError::Failed),
+        },
+        None => write_file(rt, name, bytes),
+    }
+}
+
+// The permissions of the plain file of that name; None where there is none: no file, or a link, a device or a folder.
+fn permissions_of<R: Files>(rt: &R, name: &str) -> Option<Permissions> {
+    match fs::symlink_metadata(rt, name) {
+        Ok(metadata) if metadata.is_file() => Some(metadata.permissions()),
+        _ => None,
+    }
+}
+
+// The name with the ending of a file that is to take its place.
+fn name_beside<'a>(room: &'a mut [u8; PATH_LIMIT], name: &str) -> Option<&'a str> {
+    let length = name.len();
+    if PATH_LIMIT - ENDING.len() < length {
+        return None;
+    }
+    room[..length].copy_from_slice(name.as_bytes());
+    room[length..length + ENDING.len()].copy_from_slice(ENDING);
+    str::from_utf8(&room[..length + ENDING.len()]).ok()
+}
+
+// Writes a new file beside the old one and moves it into its place. An old file that may not be written isn't
+// replaced either. A file that stands beside it already is left as it is, and is a failure.
+fn replace_file<R: Files>(
+    rt: &R,
+    name: &str,
+    beside: &str,
+    permissions: Permissions,
+    bytes: &[u8],
+) -> Result<(), DeskError>
+    ensures { IfErr result IsOfSystem }
+{
+    OpenOptions::new().write(true).open(rt, name)?;
+    let mut file = File::create_new(rt, beside)?;
+    let result = fill_and_move(rt, &mut file, name, beside, permissions, bytes);
+    if result.is_err() {
+        let _ = fs::remove_file(rt, beside);
+    }
+    result
+}
+
+// Writes the new file, with the old one's permissions, and moves it into the old one's place.
+fn fill_and_move<R: Files>(
+    rt: &R,
+    file: &mut R::File,
+    name: &str,
+    beside: &str,
+    permissions: Permissions,
+    bytes: &[u8],
+) -> Result<(), DeskError>
+    ensures { IfErr result IsOfSystem }
+{
+    write_whole(file, bytes)?;
+    fs::set_permissions(rt, beside, permissions)?;
+    fs::rename(rt, beside, name)?;
+    Ok(())
+}
+
 // Makes or empties a file and writes it.
 fn write_file<R: Files>(rt: &R, name: &str, bytes: &[u8]) -> Result<(), DeskError>
     ensures { IfErr result IsOfSystem }
@@ -151,8 +229,9 @@ impl<'a, R: Files + Print> Desk for FileDesk<'a, R> {
         result
     }
 
-    /// As `Desk::store`. The file is made where it isn't there, and cut to these bytes where it is; each
-    /// error but want of memory is counted.
+    /// As `Desk::store`. A plain file that is there is replaced by a new one with its permissions, which is written
+    /// beside it under the name with `.part` at the end; so it stays as it was where that fails. Each error but want
+    /// of memory is counted.
     fn store(&mut self, name: &str, bytes: &[u8]) -> Result<(), DeskError>
         ensures counted { CountsErrors (store_faults_at self.old) (store_faults_at self.new) result }
 
@@ -162,7 +241,7 @@ impl<'a, R: Files + Print> Desk for FileDesk<'a, R> {
         ensures fetch_count { fetch_faults_at self.new ≡ fetch_faults_at self.old }
         ensures say_count { say_faults_at self.new ≡ say_faults_at self.old }
     {
-        let result = write_file(self.rt, name, bytes);
+        let result = store_file(self.rt, name, bytes);
         if let Err(error) = &result {
             self.store_faults = counted(self.store_faults, *error);
         }
@@ -192,6 +271,24 @@ mod tests {
     use super::*;
     use std::test::Fail;
 
+    // Whether an empty file stays as it was where its new one can't be written beside it, since another file has that
+    // name, and whether that one stays too.
+    fn keeps_what_it_cannot_replace<R: Files + Print>(
+        rt: &R,
+        alloc: Global,
+        desk: &mut FileDesk<'_, R>,
+        name: &str,
+    ) -> Result<bool, Fail> {
+        let beside = "rt_desk_reads_what_it_wrote.bin.part";
+        let free = desk.fetch(alloc, beside, 10).is_err();
+        desk.store(beside, b"taken")?;
+        let refused = desk.store(name, b"new") == Err(DeskError::Failed);
+        let old = desk.fetch(alloc, name, 10)?;
+        let taken = desk.fetch(alloc, beside, 10)?;
+        fs::remove_file(rt, beside)?;
+        Ok(free && refused && old.is_empty() && taken.as_slice() == b"taken".as_slice())
+    }
+
     #[test]
     fn reads_what_it_wrote(rt: HostRuntime) -> Result<(), Fail> {
         let alloc = rt.alloc();
@@ -211,6 +308,7 @@ mod tests {
         }
         desk.store(name, b"")?;
         assert!(rt; desk.fetch(alloc, name, 0)?.is_empty());
+        assert!(rt; keeps_what_it_cannot_replace(&rt, alloc, &mut desk, name)?);
         desk.say(b"said\n")?;
         fs::remove_file(&rt, name)?;
         Ok(())

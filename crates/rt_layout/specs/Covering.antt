@@ -1,5 +1,5 @@
 -- What the masks of a layout cover.
-use Rattle.std.specs.Prelude.{◌≡◌, ℕ, ℤ, List, [], map, length, slice_index_or, ◌↔◌}
+use Rattle.std.specs.Prelude.{ℕ, ℤ, List, [], map, slice_index_or}
 use Rattle.rt_base.specs.declared.plane.Rect.{Rect}
 use Rattle.rt_base.specs.Plane.{area}
 use Rattle.rt_cells.specs.Rectangles.{Covers}
@@ -12,9 +12,3 @@ rectangles_of layout m = slice_index_or layout.masks m []
 -- one of the mask's rectangles holds the cell
 abbrev pub MaskCovers : Layout → ℕ → ℤ → ℤ → Type 0
 MaskCovers layout m x y = Covers (map area (rectangles_of layout m)) x y
-
--- two layouts are alike: each mask covers the same cells in both, and they have the same labels in order
-pub record AreAlike (a b : Layout) : Type 0 where
-  pub same_masks : length a.masks ≡ length b.masks
-  pub same_cells : (m : ℕ) (x y : ℤ) → MaskCovers a m x y ↔ MaskCovers b m x y
-  pub same_labels : a.labels ≡ b.labels

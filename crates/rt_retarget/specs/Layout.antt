@@ -31,7 +31,8 @@ corners_of r =
     record { x = r.left; y = r.bottom } ∷
     []
 
--- the element is a polygon round that rectangle, from its lower left corner counterclockwise, on the layer and with the data type of its mask
+-- the element is a polygon round that rectangle, from its lower left corner counterclockwise,
+-- on the layer and with the data type of its mask
 pub record IsItem (tech : Tech) (element : Element) (item : Placed) : Type 0 where
   pub offset : ℕ
   pub layer : ℤ
