@@ -17,6 +17,79 @@ type Placing = (u32, [i32; 4]);
 // A breach of a case: the rule, the two cells, the number found and the number needed.
 type Breach = (RuleName, (i64, i64), (i64, i64), i64, i64);
 
+// A case: its name, the two strips, and the breach that is to be named, if any.
+type Case = (&'static str, Placing, Placing, Option<Breach>);
+
+const CASES: [Case; 12] = [
+    ("sound", (0, [0, 0, 10, 10]), (0, [30, 0, 40, 10]), None),
+    (
+        "narrow",
+        (0, [0, 0, 9, 10]),
+        (0, [90, 0, 100, 10]),
+        Some((RuleName::Width(0), (0, 0), (8, 0), 9, 10)),
+    ),
+    (
+        "low",
+        (0, [0, 0, 10, 10]),
+        (0, [90, 5, 102, 11]),
+        Some((RuleName::Width(0), (90, 5), (90, 10), 6, 10)),
+    ),
+    (
+        "near across",
+        (0, [0, 0, 10, 40]),
+        (0, [29, 10, 50, 30]),
+        Some((RuleName::Space(0), (9, 10), (29, 10), 19, 20)),
+    ),
+    (
+        "near upwards",
+        (0, [0, 0, 40, 10]),
+        (0, [20, 15, 60, 25]),
+        Some((RuleName::Space(0), (20, 9), (20, 15), 5, 20)),
+    ),
+    (
+        "near diagonally",
+        (0, [0, 0, 10, 10]),
+        (0, [13, 17, 30, 30]),
+        Some((RuleName::Space(0), (9, 9), (13, 17), 7, 20)),
+    ),
+    (
+        "a corner contact",
+        (0, [0, 0, 10, 10]),
+        (0, [10, 10, 20, 20]),
+        Some((RuleName::Space(0), (9, 9), (10, 10), 0, 20)),
+    ),
+    (
+        "the second mask alone",
+        (0, [0, 0, 10, 10]),
+        (1, [90, 0, 110, 40]),
+        Some((RuleName::Width(1), (90, 0), (109, 0), 20, 30)),
+    ),
+    (
+        "both masks",
+        (0, [0, 0, 10, 3]),
+        (1, [90, 0, 110, 40]),
+        Some((RuleName::Width(0), (0, 0), (0, 2), 3, 10)),
+    ),
+    (
+        "both masks, the second mask's strip first",
+        (1, [0, 0, 20, 40]),
+        (0, [90, 0, 95, 10]),
+        Some((RuleName::Width(0), (90, 0), (94, 0), 5, 10)),
+    ),
+    (
+        "width before space",
+        (0, [0, 0, 9, 10]),
+        (0, [12, 0, 30, 10]),
+        Some((RuleName::Width(0), (0, 0), (8, 0), 9, 10)),
+    ),
+    (
+        "near strips of two masks",
+        (0, [0, 0, 10, 10]),
+        (1, [11, 0, 50, 30]),
+        None,
+    ),
+];
+
 // The strip, if it has a cell.
 fn strip(placing: Placing) -> Option<Strip> {
     let (mask, [left, bottom, right, top]) = placing;
@@ -108,76 +181,7 @@ fn answer(a: Strip, b: Strip, tech: &Tech) -> Result<(), RuleError>
 #[test]
 fn names_the_first_broken_rule(rt: HostRuntime) -> Result<(), Fail> {
     let tech = table(rt.alloc())?.ok_or("a name")?;
-    let cases: [(&str, Placing, Placing, Option<Breach>); 12] = [
-        ("sound", (0, [0, 0, 10, 10]), (0, [30, 0, 40, 10]), None),
-        (
-            "narrow",
-            (0, [0, 0, 9, 10]),
-            (0, [90, 0, 100, 10]),
-            Some((RuleName::Width(0), (0, 0), (8, 0), 9, 10)),
-        ),
-        (
-            "low",
-            (0, [0, 0, 10, 10]),
-            (0, [90, 5, 102, 11]),
-            Some((RuleName::Width(0), (90, 5), (90, 10), 6, 10)),
-        ),
-        (
-            "near across",
-            (0, [0, 0, 10, 40]),
-            (0, [29, 10, 50, 30]),
-            Some((RuleName::Space(0), (9, 10), (29, 10), 19, 20)),
-        ),
-        (
-            "near upwards",
-            (0, [0, 0, 40, 10]),
-            (0, [20, 15, 60, 25]),
-            Some((RuleName::Space(0), (20, 9), (20, 15), 5, 20)),
-        ),
-        (
-            "near diagonally",
-            (0, [0, 0, 10, 10]),
-            (0, [13, 17, 30, 30]),
-            Some((RuleName::Space(0), (9, 9), (13, 17), 7, 20)),
-        ),
-        (
-            "a corner contact",
-            (0, [0, 0, 10, 10]),
-            (0, [10, 10, 20, 20]),
-            Some((RuleName::Space(0), (9, 9), (10, 10), 0, 20)),
-        ),
-        (
-            "the second mask alone",
-            (0, [0, 0, 10, 10]),
-            (1, [90, 0, 110, 40]),
-            Some((RuleName::Width(1), (90, 0), (109, 0), 20, 30)),
-        ),
-        (
-            "both masks",
-            (0, [0, 0, 10, 3]),
-            (1, [90, 0, 110, 40]),
-            Some((RuleName::Width(0), (0, 0), (0, 2), 3, 10)),
-        ),
-        (
-            "both masks, the second mask's strip first",
-            (1, [0, 0, 20, 40]),
-            (0, [90, 0, 95, 10]),
-            Some((RuleName::Width(0), (90, 0), (94, 0), 5, 10)),
-        ),
-        (
-            "width before space",
-            (0, [0, 0, 9, 10]),
-            (0, [12, 0, 30, 10]),
-            Some((RuleName::Width(0), (0, 0), (8, 0), 9, 10)),
-        ),
-        (
-            "near strips of two masks",
-            (0, [0, 0, 10, 10]),
-            (1, [11, 0, 50, 30]),
-            None,
-        ),
-    ];
-    for (name, first, second, breach) in cases {
+    for (name, first, second, breach) in CASES {
         let a = strip(first).ok_or("an empty strip")?;
         let b = strip(second).ok_or("an empty strip")?;
         assert!(rt; a.mask < 2 && b.mask < 2);
