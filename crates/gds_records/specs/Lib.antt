@@ -1,1 +1,3 @@
+pub mod Framing
+pub mod Reals
 pub mod Records

@@ -1,10 +1,17 @@
-//! The records of a stream, and how one is put behind bytes. (GDSII Release 6.)
+//! The records of a stream: how one is put behind bytes, and how one is read. (GDSII Release 6.)
 #![tactic(auto)]
 
+mod laws;
 mod put;
+mod reading;
+mod real;
+mod table;
 mod types;
 
+pub use laws::{framing_decides, one_value};
 pub use put::put_record;
+pub use reading::{Part, RecordError, next_record};
+pub use real::{is_real_one, quarter_turns, whole_real};
 pub use types::{
     ANGLE, AREF, ATTRTABLE, BGNEXTN, BGNLIB, BGNSTR, BITS, BOUNDARY, BOX, BOXTYPE, CHARACTERS,
     COLROW, DATATYPE, ELFLAGS, ENDEL, ENDEXTN, ENDLIB, ENDMASKS, ENDSTR, FONTS, FORMAT, FOUR_BYTES,

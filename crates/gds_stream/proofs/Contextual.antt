@@ -10,7 +10,7 @@ use Rattle.gds_records.specs.Records.{Item, Framed, WholeItems, known, data_of}
 use Rattle.gds_stream.specs.declared.cell.Flat.{Flat}
 use Rattle.gds_stream.specs.declared.cell.Shape.{Shape}
 use Rattle.gds_stream.specs.declared.cell.Note.{Note}
-use Rattle.gds_stream.specs.Conditions.{InContext, trim, names_in}
+use Rattle.gds_grammar.specs.Conditions.{InContext, trim, names_in}
 use Rattle.gds_stream.specs.Written.{two_of, four_of, padded, corner_bytes, item_of, shape_records, note_records, front_records, end_records, records_of, FitsNote, FitsFront, FitsWriter}
 use Rattle.gds_stream.proofs.Texts.{trim_padded, even_padded, short_padded}
 

@@ -7,8 +7,8 @@ use Rattle.gds_records.specs.Records.{Item}
 use Rattle.gds_stream.specs.declared.cell.Flat.{Flat}
 use Rattle.gds_stream.specs.declared.cell.Shape.{Shape}
 use Rattle.gds_stream.specs.declared.cell.Note.{Note}
-use Rattle.gds_stream.specs.Grammar.{Grammar, many, type, In}
-use Rattle.gds_stream.specs.Format.{skipped, head, boundary, label, property, element, structure, stream}
+use Rattle.gds_grammar.specs.Grammar.{Grammar, many, type, In}
+use Rattle.gds_grammar.specs.Format.{skipped, head, boundary, label, property, element, structure, stream}
 use Rattle.gds_stream.specs.Written.{shape_records, note_records, front_records, end_records, records_of}
 
 -- the types of records

@@ -14,9 +14,9 @@ use Rattle.gds_stream.specs.declared.library.Structure.{Structure}
 use Rattle.gds_stream.specs.declared.library.Library.{Library}
 use Rattle.std.specs.Prelude.{AllPairs, IfOk, OnOk}
 use Rattle.std.specs.Global.{Vec}
-use Rattle.gds_stream.specs.Grammar.{In}
-use Rattle.gds_stream.specs.Format.{stream}
-use Rattle.gds_stream.specs.Conditions.{starts, trim}
+use Rattle.gds_grammar.specs.Grammar.{In}
+use Rattle.gds_grammar.specs.Format.{stream}
+use Rattle.gds_grammar.specs.Conditions.{starts, trim}
 use Rattle.gds_stream.specs.Contents.{pieces, pieces_from, two_bytes, four_bytes, points_in, element_of, structure_of, library_of, Stream}
 use Rattle.gds_stream.specs.Written.{two_of, four_of, padded, corner_bytes, item_of, shape_records, note_records, front_records, end_records, records_of, five_points, IsMadeOf, IsLabelOf, FitsShape, FitsNote, FitsWriter, OneCell, written}
 use Rattle.gds_stream.proofs.Numbers.{two_back, four_back}

@@ -2,7 +2,7 @@
 use Rattle.std.proofs.Common.{◌≡◌, ℕ, ◌+◌, List, [], ◌∷◌, ◌++◌, length, map, Option, refl, ap}
 use Rattle.std.specs.List.{cons_option}
 use Rattle.gds_records.specs.Records.{Item, spelled, flat, Framed}
-use Rattle.gds_stream.specs.Conditions.{kind_after, Counted, InContext, Placed, name_in, names_in}
+use Rattle.gds_grammar.specs.Conditions.{kind_after, Counted, InContext, Placed, name_in, names_in}
 
 -- the record at a place
 abbrev pub at_place : ℕ → Item → Item

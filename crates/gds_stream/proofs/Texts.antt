@@ -4,7 +4,7 @@ use Rattle.std.proofs.lemmas.List.{length-append}
 use Rattle.std.proofs.lemmas.List.Elements.{All-head, All-tail}
 use Rattle.std.proofs.lemmas.Bool.{cond_both, eqb-true, eqb-false}
 use Rattle.rt_base.specs.Text.{IsText, IsPrintable}
-use Rattle.gds_stream.specs.Conditions.{without_zero, trim}
+use Rattle.gds_grammar.specs.Conditions.{without_zero, trim}
 use Rattle.gds_stream.specs.Written.{padded}
 
 -- a byte before others stays

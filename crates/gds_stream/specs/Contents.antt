@@ -10,7 +10,7 @@ use Rattle.gds_stream.specs.declared.library.Element.{Element}
 use Rattle.gds_stream.specs.declared.library.Element.TheVariants.{Boundary, Path, Sref, Aref, Label, BoxShape}
 use Rattle.gds_stream.specs.declared.library.Structure.{Structure}
 use Rattle.gds_stream.specs.declared.library.Library.{Library}
-use Rattle.gds_stream.specs.Conditions.{is_in, starts, trim, AreStream}
+use Rattle.gds_grammar.specs.Conditions.{is_in, starts, trim, AreStream}
 
 -- the data of the first record of a type
 abbrev pub held : ℕ → List Item → Option (List ℕ)

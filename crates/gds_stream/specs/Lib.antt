@@ -1,6 +1,4 @@
-pub mod Grammar
-pub mod Format
-pub mod Conditions
 pub mod Contents
 pub mod Written
-pub mod Own
+pub mod Gives
+pub mod Refusals

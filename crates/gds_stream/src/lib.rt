@@ -1,14 +1,22 @@
-//! Streams of the format GDSII: what one holds, and the stream of a flat cell.
+//! Streams of the format GDSII: what one holds, how it is read, and the stream of a flat cell.
 #![tactic(auto)]
 
 mod cell;
+mod counting;
+mod data;
+mod error;
 mod library;
-mod own;
+mod reader;
+mod reading;
+mod shapes;
+mod structures;
 mod writing;
 
 pub use cell::{Flat, Note, Shape};
+pub use error::StreamError;
+pub use gds_grammar::Cause;
 pub use library::{Element, Library, Place, Structure};
-pub use own::{one_flat, read_own};
+pub use reading::{no_library_stops, one_library, read_stream};
 pub use writing::write_stream;
 
 #[cfg(test)]

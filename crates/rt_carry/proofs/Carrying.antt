@@ -14,8 +14,7 @@ use Rattle.rt_rows.specs.declared.name.Name.TheVariants.{Wide, Gap, Run}
 use Rattle.rt_rows.specs.Rows.{MeetsRow, beyond}
 use Rattle.rt_template.specs.declared.job.Job.{Job}
 use Rattle.rt_template.specs.Strips.{mask_of, strip_at, left_of, right_of, bottom_of, top_of, areas_of}
-use Rattle.rt_template.specs.Standing.{IsStrip, AreOfOneMask, ShareRow, StandsOn, Touch, IsClimbed}
-use Rattle.rt_template.specs.Standing.IsClimbed.{step, onward}
+use Rattle.rt_template.specs.Standing.{IsStrip, AreOfOneMask, ShareRow}
 use Rattle.rt_template.specs.Across.{strips_of, width_wanted, space_wanted, MeetsAcross}
 use Rattle.rt_template.specs.Upwards.{columns_apart, IsWholeChain, MeetsUpwards}
 use Rattle.rt_template.specs.Upwards.IsChain.{one}

@@ -1,2 +1,3 @@
 pub mod Seven
 pub mod Fetches
+pub mod Refused

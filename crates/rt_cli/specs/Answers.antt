@@ -1,14 +1,14 @@
 -- The answers of a run: the status of each, and what it says of the words, the files and the desk.
 use Rattle.std.specs.Prelude.{◌≡◌, ℕ, ℤ, List, Option}
 use Rattle.rt_base.specs.declared.plane.Cell.{Cell}
+use Rattle.gds_grammar.specs.declared.cause.Cause.{Cause}
 use Rattle.rt_tech.specs.declared.rules.RuleName.{RuleName}
 use Rattle.rt_desk.specs.Desk.{Files, Rose, IsStored, ChangesOnly}
 use Rattle.rt_retarget.specs.declared.answer.Fault.{Fault}
-use Rattle.rt_retarget.specs.declared.answer.Fault.TheVariants.{NotBuilt as NoBuild, SourceRule as BrokenRule, OutOfMemory as NoMemory}
-use Rattle.rt_retarget.specs.Thin.{ThinInput}
-use Rattle.rt_retarget.specs.Answers.{IsDone, IsUnsound}
+use Rattle.rt_retarget.specs.declared.answer.Fault.TheVariants.{NotBuilt as NoBuild, BadStream as NoStream, SourceRule as BrokenRule, OutOfMemory as NoMemory}
+use Rattle.rt_retarget.specs.Answers.{IsDone, IsUnsound, IsNoStream, IsNotBuilt}
 use Rattle.rt_cli.specs.declared.answer.Answer.{Answer}
-use Rattle.rt_cli.specs.declared.answer.Answer.TheVariants.{Done, Usage, SourceRule, NotFetched, NotStored, OutOfMemory, NotBuilt}
+use Rattle.rt_cli.specs.declared.answer.Answer.TheVariants.{Done, Usage, BadStream, SourceRule, NotFetched, NotStored, OutOfMemory, NotBuilt}
 use Rattle.rt_cli.specs.Words.{Names, AreWordsFor}
 use Rattle.rt_cli.specs.Outside.{Seen, Contents, AreFetched, CannotFetch, fetched_names}
 
@@ -16,6 +16,7 @@ use Rattle.rt_cli.specs.Outside.{Seen, Contents, AreFetched, CannotFetch, fetche
 abbrev pub number_of : Answer → ℕ
 number_of Done = 0
 number_of Usage = 2
+number_of BadStream = 3
 number_of SourceRule = 7
 number_of NotFetched = 11
 number_of NotStored = 12
@@ -23,9 +24,9 @@ number_of OutOfMemory = 13
 number_of NotBuilt = 30
 
 module _ (contents : Contents) where
-  -- the contents of the files are thin input
-  abbrev pub AreThin : Type 0
-  AreThin = ThinInput contents.source contents.stable contents.ttable contents.sizes
+  -- the contents of the files ask for what isn't built yet
+  abbrev pub AreNotBuilt : Type 0
+  AreNotBuilt = IsNotBuilt contents.source contents.stable contents.ttable contents.sizes
 
   -- the contents of the files are thin and sound, and the bytes are their cell, moved
   abbrev pub AreMovedTo : List ℕ → Type 0
@@ -53,12 +54,19 @@ module _ (contents : Contents) where
     pub needed : ℤ
     pub broken : IsUnsound contents.source contents.stable contents.ttable contents.sizes rule p q found needed
 
+  -- the tables and the sizes file are thin, and the source stops being a stream at a place, for a cause
+  pub record HasNoStream : Type 0 where
+    pub offset : ℕ
+    pub cause : Cause
+    pub stops : IsNoStream contents.source contents.stable contents.ttable contents.sizes offset cause
+
   -- what an answer says of the contents of the files, of the files before and after, and of the count of stores
   abbrev pub SaysOfContents : List ℕ → Option Files → Option Files → ℕ → ℕ → Answer → Type 0
   SaysOfContents out files files_after stores stores_after Done = IsStoredDone out files files_after
   SaysOfContents out files files_after stores stores_after NotStored = IsNotStored out files files_after stores stores_after
   SaysOfContents out files files_after stores stores_after SourceRule = BreaksSourceRule × (files_after ≡ files)
-  SaysOfContents out files files_after stores stores_after NotBuilt = (¬ AreThin) × (files_after ≡ files)
+  SaysOfContents out files files_after stores stores_after BadStream = HasNoStream × (files_after ≡ files)
+  SaysOfContents out files files_after stores stores_after NotBuilt = AreNotBuilt × (files_after ≡ files)
   SaysOfContents out files files_after stores stores_after OutOfMemory = files_after ≡ files
   SaysOfContents out files files_after stores stores_after Usage = ⊥
   SaysOfContents out files files_after stores stores_after NotFetched = ⊥
@@ -66,6 +74,7 @@ module _ (contents : Contents) where
 -- the answer of each refusal
 abbrev pub refusal_answer : Fault → Answer
 refusal_answer NoBuild = NotBuilt
+refusal_answer (NoStream offset cause) = BadStream
 refusal_answer (BrokenRule rule p q found needed) = SourceRule
 refusal_answer NoMemory = OutOfMemory
 
@@ -86,6 +95,7 @@ pub record SaysOfFetched (names : Names) (before after : Seen) (answer : Answer)
 abbrev pub SaysOfNames : Names → Seen → Seen → Answer → Type 0
 SaysOfNames names before after Done = SaysOfFetched names before after Done
 SaysOfNames names before after NotStored = SaysOfFetched names before after NotStored
+SaysOfNames names before after BadStream = SaysOfFetched names before after BadStream
 SaysOfNames names before after SourceRule = SaysOfFetched names before after SourceRule
 SaysOfNames names before after NotBuilt = SaysOfFetched names before after NotBuilt
 SaysOfNames names before after NotFetched =
@@ -109,6 +119,7 @@ abbrev pub Says : List (List ℕ) → Seen → Seen → Answer → Type 0
 Says words before after Usage = IsUsage words before after
 Says words before after Done = SaysOfWords words before after Done
 Says words before after NotStored = SaysOfWords words before after NotStored
+Says words before after BadStream = SaysOfWords words before after BadStream
 Says words before after SourceRule = SaysOfWords words before after SourceRule
 Says words before after NotBuilt = SaysOfWords words before after NotBuilt
 Says words before after NotFetched = SaysOfWords words before after NotFetched

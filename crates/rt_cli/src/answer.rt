@@ -7,6 +7,8 @@ pub enum Answer {
     Done,
     /// The words are of no form.
     Usage,
+    /// The source isn't a stream of the format.
+    BadStream,
     /// The source breaks a rule of its own table.
     SourceRule,
     /// A file wasn't fetched.
@@ -29,6 +31,7 @@ impl Answer {
         match self {
             Answer::Done => 0,
             Answer::Usage => 2,
+            Answer::BadStream => 3,
             Answer::SourceRule => 7,
             Answer::NotFetched => 11,
             Answer::NotStored => 12,

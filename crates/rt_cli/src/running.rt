@@ -19,8 +19,8 @@ pub struct Status(pub u8);
 /// Runs the program on the words behind its name.
 ///
 /// The one form is `retarget SOURCE STABLE TTABLE SIZES OUT CERT`: it fetches the first four files, and stores
-/// the moved cell as OUT. The statuses are 0 where OUT is stored; 2 where the words are of no form; 30 where the
-/// files ask for what isn't built yet; 7 where the source breaks a rule of its own table; 11 where a file wasn't
+/// the moved cell as OUT. The statuses are 0 where OUT is stored; 2 where the words are of no form; 3 where the source
+/// isn't a stream of the format; 30 where the files ask for what isn't built yet; 7 where the source breaks a rule of its own table; 11 where a file wasn't
 /// fetched; 12 where OUT wasn't stored; and 13 where there was no memory. Nothing is said yet.
 pub fn run<D: Desk>(alloc: Global, words: &[String], desk: &mut D) -> Status
     ensures { Answers (bytes_of words.now) (seen (D.files desk.old) (D.said desk.old) (D.fetch_faults desk.old) (D.store_faults desk.old) (D.say_faults desk.old)) (seen (D.files desk.new) (D.said desk.new) (D.fetch_faults desk.new) (D.store_faults desk.new) (D.say_faults desk.new)) result.0 }
@@ -80,6 +80,7 @@ fn refusal(fault: &Fault) -> Answer
 {
     match fault {
         Fault::NotBuilt => Answer::NotBuilt,
+        Fault::BadStream { .. } => Answer::BadStream,
         Fault::SourceRule { .. } => Answer::SourceRule,
         Fault::OutOfMemory => Answer::OutOfMemory,
     }

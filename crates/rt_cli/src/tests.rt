@@ -428,7 +428,7 @@ struct Refused {
     status: u8,
 }
 
-const REFUSED: [Refused; 10] = [
+const REFUSED: [Refused; 11] = [
     Refused {
         shows: "a shared side",
         stable: NARROW,
@@ -511,12 +511,21 @@ const REFUSED: [Refused; 10] = [
         status: 30,
     },
     Refused {
-        shows: "a byte behind the stream",
+        shows: "a byte that is no zero behind the stream",
         stable: NARROW,
         ttable: WIDE,
         sizes: SIZES,
         rectangles: &[(1, 10, 0, 20, 4)],
-        more: &[0],
+        more: &[0, 0, 1],
+        status: 3,
+    },
+    Refused {
+        shows: "a bad stream under a table that isn't thin",
+        stable: CUT,
+        ttable: WIDE,
+        sizes: SIZES,
+        rectangles: &[(1, 10, 0, 20, 4)],
+        more: &[1],
         status: 30,
     },
 ];
@@ -641,10 +650,80 @@ fn moves_one_rectangle_and_none(rt: HostRuntime) -> Result<(), Fail> {
     let mut desk = desk_with(alloc, &given)?;
     assert_eq!(rt; run(alloc, &words, &mut desk), Status(0));
     assert!(rt; holds(&desk, &given, Some(&ONE_RECTANGLE)));
+    given.source.extend_from_slice(&[0; 5])?;
+    let mut desk = desk_with(alloc, &given)?;
+    assert_eq!(rt; run(alloc, &words, &mut desk), Status(0));
+    assert!(rt; holds(&desk, &given, Some(&ONE_RECTANGLE)));
     given.source = Vec::from_slice(alloc, &NO_RECTANGLE)?;
     let mut desk = desk_with(alloc, &given)?;
     assert_eq!(rt; run(alloc, &words, &mut desk), Status(0));
     assert!(rt; holds(&desk, &given, Some(&NO_RECTANGLE)));
+    Ok(())
+}
+
+// Points of a polygon, and the status of a source with it alone.
+const POLYGONS: [([i32; 10], u8); 12] = [
+    ([10, 0, 20, 0, 20, 4, 10, 4, 10, 0], 0),
+    ([20, 0, 20, 4, 10, 4, 10, 0, 20, 0], 0),
+    ([20, 4, 10, 4, 10, 0, 20, 0, 20, 4], 0),
+    ([10, 4, 10, 0, 20, 0, 20, 4, 10, 4], 0),
+    ([10, 0, 10, 4, 20, 4, 20, 0, 10, 0], 0),
+    ([10, 4, 20, 4, 20, 0, 10, 0, 10, 4], 0),
+    ([20, 4, 20, 0, 10, 0, 10, 4, 20, 4], 0),
+    ([20, 0, 10, 0, 10, 4, 20, 4, 20, 0], 0),
+    ([10, 0, 20, 0, 20, 4, 10, 4, 10, 1], 3),
+    ([10, 0, 20, 0, 20, 4, 11, 4, 10, 0], 30),
+    ([10, 0, 20, 0, 20, 0, 10, 0, 10, 0], 30),
+    ([10, 0, 20, 4, 20, 0, 10, 4, 10, 0], 30),
+];
+
+// The stream of one polygon.
+fn polygon(alloc: Global, points: &[i32; 10]) -> Result<Vec<u8>, AllocError> {
+    let mut bytes = Vec::from_slice(alloc, &ONE_RECTANGLE[..HEAD_LENGTH])?;
+    bytes.extend_from_slice(&[
+        0, 4, 8, 0, 0, 6, 13, 2, 0, 1, 0, 6, 14, 2, 0, 0, 0, 44, 16, 3,
+    ])?;
+    for place in points {
+        bytes.extend_from_slice(&place.to_be_bytes())?;
+    }
+    bytes.extend_from_slice(&[0, 4, 17, 0, 0, 4, 7, 0, 0, 4, 4, 0])?;
+    Ok(bytes)
+}
+
+#[test]
+fn takes_a_rectangle_from_any_corner_and_no_other_polygon(rt: HostRuntime) -> Result<(), Fail> {
+    let alloc = rt.alloc();
+    let words = words_with(alloc, 0, "retarget")?;
+    let mut given = one_rectangle(alloc)?;
+    for (points, status) in &POLYGONS {
+        given.source = polygon(alloc, points)?;
+        let mut desk = desk_with(alloc, &given)?;
+        assert_eq!(rt;
+            run(alloc, &words, &mut desk),
+            Status(*status),
+            "{points:?}"
+        );
+        let out = if *status == 0 {
+            Some(ONE_RECTANGLE.as_slice())
+        } else {
+            None
+        };
+        assert!(rt; holds(&desk, &given, out), "{points:?}");
+    }
+    Ok(())
+}
+
+#[test]
+fn refuses_a_source_that_is_cut(rt: HostRuntime) -> Result<(), Fail> {
+    let alloc = rt.alloc();
+    let words = words_with(alloc, 0, "retarget")?;
+    let mut given = one_rectangle(alloc)?;
+    for length in [0, 1, 6, 40, 97, 98, 165, 169] {
+        given.source = Vec::from_slice(alloc, &ONE_RECTANGLE[..length])?;
+        let mut desk = desk_with(alloc, &given)?;
+        assert_eq!(rt; run(alloc, &words, &mut desk), Status(3), "{length}");
+        assert!(rt; holds(&desk, &given, None), "{length}");
+    }
     Ok(())
 }
 

@@ -1,14 +1,12 @@
--- The layout that a written cell draws.
-use Rattle.std.proofs.Common.{◌≡◌, ℕ, suc, zero, ◌+◌, ◌<◌, ℤ, List, [], ◌∷◌, ◌++◌, length, map, Some, None, Option, refl, ap, ◌∙◌, sym, subst, arith}
+-- The layouts that a source and a written cell draw.
+use Rattle.std.proofs.Common.{◌≡◌, ℕ, suc, zero, ◌+◌, ◌<◌, ℤ, List, [], ◌∷◌, ◌++◌, length, map, Some, None, Option, refl, ap, ◌∙◌, subst, arith}
 use Rattle.std.specs.Prelude.{slice_get}
 use Rattle.std.specs.List.{AllZip, AllByRecursion}
 use Rattle.std.proofs.lemmas.List.{append-nil}
-use Rattle.rt_cells.specs.Rectangles.{Rectangle, IsNonempty}
+use Rattle.rt_cells.specs.Rectangles.{IsNonempty}
 use Rattle.gds_stream.specs.declared.cell.Flat.{Flat}
-use Rattle.gds_stream.specs.declared.cell.Shape.{Shape}
 use Rattle.gds_stream.specs.declared.cell.Note.{Note}
 use Rattle.gds_stream.specs.declared.library.Element.{Element}
-use Rattle.gds_stream.specs.declared.library.Element.TheVariants.{Boundary}
 use Rattle.gds_stream.specs.declared.library.Library.{Library}
 use Rattle.gds_stream.specs.Written.{IsMadeOf, IsLabelOf, OneCell}
 use Rattle.rt_tech.specs.declared.table.Mask.{Mask}
@@ -18,27 +16,22 @@ use Rattle.rt_rows.specs.declared.row.Var.{Var}
 use Rattle.rt_template.specs.Strips.{Placed, mask_of}
 use Rattle.rt_template.specs.Drawing.{drawn_area, drawn_from}
 use Rattle.rt_carry.specs.Shapes.{shape_of, layer_of_mask, datatype_of_mask}
-use Rattle.rt_retarget.specs.Layout.{IsMaskOfPair, corners_of, IsItem, IsFlatLayout}
-use Rattle.rt_retarget.specs.Thin.{IsShapeOn}
+use Rattle.rt_retarget.specs.Layout.{IsMaskOfPair, IsItem, IsSourceItem, IsSourceLayout, IsFlatLayout}
+use Rattle.rt_retarget.specs.Thin.{IsThinItem, IsThinLayout}
 
--- the item of a shape on a mask is that of the element made of it
-item_of : (tech : Tech) (element : Element) (shape : Shape) (item : Placed) → IsMadeOf element shape → IsShapeOn tech shape item → IsItem tech element item
-item_of tech element shape item made on = record {
-  offset = made.0;
-  layer = shape.layer;
-  datatype = shape.datatype;
-  is_polygon = made.1 ∙ ap (λ (r : Rectangle). Boundary made.0 shape.layer shape.datatype (corners_of r)) (sym on.is_area);
-  on_mask = on.on_mask;
-  nonempty = subst IsNonempty (sym on.is_area) on.shape_area.nonempty;
+drawn_elements : (tech : Tech) (elements : List Element) (layout : List Placed) → AllZip (IsThinItem tech) elements layout → AllZip (IsSourceItem tech) elements layout
+drawn_elements tech [] [] a = tt
+drawn_elements tech [] (p ∷ layout) a = absurd a
+drawn_elements tech (e ∷ elements) [] a = absurd a
+drawn_elements tech (e ∷ elements) (p ∷ layout) a = (a.0.drawn, drawn_elements tech elements layout a.1)
+
+-- the layout of a thin source
+pub source_layout : (source target : Tech) (library : Library) (cell : List ℕ) (layout : List Placed) → IsThinLayout library cell source target layout → IsSourceLayout source library cell layout
+source_layout source target library cell layout thin = record {
+  elements = thin.elements;
+  one_structure = thin.one_structure;
+  items = drawn_elements source thin.elements layout thin.items;
 }
-
-items_of : (tech : Tech) (elements : List Element) (shapes : List Shape) (layout : List Placed) → AllZip IsMadeOf elements shapes → AllZip (IsShapeOn tech) shapes layout → AllZip (IsItem tech) elements layout
-items_of tech [] [] [] a b = tt
-items_of tech [] [] (p ∷ layout) a b = absurd b
-items_of tech [] (s ∷ shapes) layout a b = absurd a
-items_of tech (e ∷ elements) [] layout a b = absurd a
-items_of tech (e ∷ elements) (s ∷ shapes) [] a b = absurd b
-items_of tech (e ∷ elements) (s ∷ shapes) (p ∷ layout) a b = (item_of tech e s p a.0 b.0, items_of tech elements shapes layout a.1 b.1)
 
 no_labels : (labels : List Element) (texts : List Note) → texts ≡ [] → AllZip IsLabelOf labels texts → labels ≡ []
 no_labels [] texts e a = refl
@@ -58,10 +51,6 @@ flat_layout tech library cell layout one none items = record {
       ∙ ap (λ (elements : List Element). record { name = cell.name; elements = elements } ∷ []) (append_none one.drawn one.labels (no_labels one.labels cell.texts none one.are_texts));
   items = items one.drawn one.are_shapes;
 }
-
-pub source_layout : (tech : Tech) (library : Library) (cell : Flat) (layout : List Placed) → OneCell library cell → cell.texts ≡ []
-    → AllZip (IsShapeOn tech) cell.shapes layout → IsFlatLayout tech library cell.name layout
-source_layout tech library cell layout one none all = flat_layout tech library cell layout one none (λ elements made. items_of tech elements cell.shapes layout made all)
 
 -- a rectangle on a mask of the table, with a cell
 pub record IsDrawable (tech : Tech) (item : Placed) : Type 0 where

@@ -1,4 +1,5 @@
 pub mod Extents
+pub mod Rounds
 pub mod Items
 pub mod Readings
 pub mod Flattened

@@ -1,9 +1,10 @@
 -- Which answers exclude each other.
-use Rattle.std.specs.Prelude.{ℕ, ℤ, List}
+use Rattle.std.specs.Prelude.{ℕ, ℤ, ◌⊎◌, List}
 use Rattle.rt_base.specs.declared.plane.Cell.{Cell}
+use Rattle.gds_grammar.specs.declared.cause.Cause.{Cause}
 use Rattle.rt_tech.specs.declared.rules.RuleName.{RuleName}
 use Rattle.rt_retarget.specs.Thin.{ThinInput}
-use Rattle.rt_retarget.specs.Answers.{IsDone, IsUnsound}
+use Rattle.rt_retarget.specs.Answers.{IsDone, IsUnsound, IsNoStream, IsNotBuilt}
 
 -- files that are done break no rule
 abbrev pub DoneIsSound : Type 0
@@ -13,3 +14,12 @@ DoneIsSound = (source stable ttable sizes out : List ℕ) (rule : RuleName) (p q
 -- files that are done are thin input
 abbrev pub DoneIsThin : Type 0
 DoneIsThin = (source stable ttable sizes out : List ℕ) → IsDone source stable ttable sizes out → ThinInput source stable ttable sizes
+
+-- what isn't built is no thin input
+abbrev pub NotBuiltIsNotThin : Type 0
+NotBuiltIsNotThin = (source stable ttable sizes : List ℕ) → IsNotBuilt source stable ttable sizes → ThinInput source stable ttable sizes → ⊥
+
+-- a source that is no stream is neither thin input nor not built
+abbrev pub NoStreamIsAlone : Type 0
+NoStreamIsAlone = (source stable ttable sizes : List ℕ) (offset : ℕ) (cause : Cause)
+    → IsNoStream source stable ttable sizes offset cause → ThinInput source stable ttable sizes ⊎ IsNotBuilt source stable ttable sizes → ⊥

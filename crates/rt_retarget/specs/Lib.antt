@@ -1,5 +1,6 @@
 pub mod Layout
 pub mod Thin
+pub mod Sides
 pub mod Moved
 pub mod Answers
 pub mod Making

@@ -13,7 +13,7 @@ use Rattle.rt_template.specs.Across.{strips_of, extent_limit, IsLeastAcross}
 use Rattle.rt_template.specs.Upwards.{IsLeastUpwards}
 use Rattle.rt_template.specs.Drawing.{AreStripsOf}
 use Rattle.rt_template.specs.Separate.{AreSeparateStrips, AreOnMasksOf, extent_side_by_side}
-use Rattle.rt_retarget.specs.Thin.{AreReadAs, IsThinLayout}
+use Rattle.rt_retarget.specs.Thin.{AreTables, IsThinLayout}
 use Rattle.rt_carry.specs.Shapes.{IsDrawingOf}
 
 -- a job whose strips are separate, few, on masks of the target's table, and fit side by side, with valid tables
@@ -43,10 +43,10 @@ pub record IsWrittenFor (job : Job) (library_name cell : List ℕ) (bytes : List
   pub stream : Stream bytes library
   pub one_cell : OneCell library flat
 
--- the files are thin input with this cell, these tables and this layout; and what follows of them
-pub record IsThinCase (source stable ttable sizes : List ℕ) (cell : Flat) (source_table target_table : Tech) (layout : List Placed) : Type 0 where
-  pub read : AreReadAs source stable ttable sizes cell source_table target_table
-  pub laid_out : IsThinLayout cell source_table target_table layout
+-- the tables and the sizes file are thin, and the library is the cell alone with this layout; and what follows of them
+pub record IsThinCase (stable ttable sizes : List ℕ) (library : Library) (cell : List ℕ) (source_table target_table : Tech) (layout : List Placed) : Type 0 where
+  pub tables : AreTables stable ttable sizes source_table target_table cell
+  pub laid_out : IsThinLayout library cell source_table target_table layout
   pub source_valid : IsValidTech source_table
   pub target_valid : IsValidTech target_table
   pub on_masks : AreOnMasksOf source_table layout

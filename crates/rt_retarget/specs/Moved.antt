@@ -12,7 +12,7 @@ use Rattle.rt_template.specs.Across.{strips_of, IsLeastAcross}
 use Rattle.rt_template.specs.Upwards.{IsLeastUpwards}
 use Rattle.rt_template.specs.Drawing.{drawn, AreStripsOf}
 use Rattle.rt_template.specs.Rules.{BreaksNoRule, BreaksNoRuleOnGrid}
-use Rattle.rt_retarget.specs.Layout.{IsFlatLayout}
+use Rattle.rt_retarget.specs.Layout.{IsSourceLayout, IsFlatLayout}
 
 -- the strips of the job at the positions, in database units of the target
 abbrev pub drawing_of : Job → (Var → ℤ) → List Placed
@@ -26,7 +26,7 @@ pub record IsMovedJob (source stable ttable sizes cell : List ℕ) (library : Li
   pub named : IsSizesOf sizes cell
   pub stream : Stream source library
   pub layout : List Placed
-  pub flat : IsFlatLayout job.source library cell layout
+  pub drawn : IsSourceLayout job.source library cell layout
   pub sound : BreaksNoRule job.source layout
   pub strips : AreStripsOf layout (strips_of job)
 

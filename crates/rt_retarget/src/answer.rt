@@ -1,5 +1,6 @@
 ghost use Rattle.std.specs.Prelude.{◌≡◌};
 
+use gds_stream::Cause;
 use rt_base::{Cell, List, OutOfMemory};
 use rt_tech::RuleName;
 use thiserror::Error;
@@ -21,9 +22,18 @@ pub enum Outcome {
 /// Why a retargeting is refused.
 #[derive(Clone, Copy, Debug, PartialEq, Eq, Drop, Error)]
 pub enum Fault {
-    /// The files aren't thin input: what they ask for isn't built yet.
+    /// The files aren't thin input, though the source may be a stream: what they ask for isn't built yet.
     #[error("not built")]
     NotBuilt,
+    /// The source isn't a stream of the format.
+    #[error("the source is no stream: {cause}, at byte {offset}")]
+    BadStream {
+        /// The place behind the longest list of whole records that begins a stream; behind a whole stream, that of the
+        /// first byte that isn't 0.
+        offset: u64,
+        /// Why no stream goes on there.
+        cause: Cause,
+    },
     /// The source breaks this rule of its own table, the first one that it breaks.
     #[error("the source breaks a rule")]
     SourceRule {

@@ -1,76 +1,66 @@
-ghost use Rattle.std.specs.Prelude.{◌≡◌, IfOk, MatchOption, MatchBool};
+ghost use Rattle.std.specs.Prelude.{◌≡◌, ℕ, List as ListValue, IfOk, IfErr, MatchOption};
 ghost use Rattle.rt_tech.specs.declared.table.Tech.{Tech as TechValue};
-ghost use Rattle.gds_stream.specs.declared.cell.Flat.{Flat as FlatValue};
-ghost use Rattle.rt_tables.specs.Tables.{HaveSameNames};
-ghost use Rattle.rt_retarget.specs.Thin.{AreReadAs};
+ghost use Rattle.gds_stream.specs.Contents.{Stream};
+ghost use Rattle.rt_retarget.specs.Thin.{AreTables};
+ghost use Rattle.rt_retarget.specs.Answers.{IsStreamFaultOf};
 
-use gds_stream::{Flat, read_own};
+use crate::answer::Fault;
+use gds_stream::{Library, StreamError, read_stream};
 use rt_base::{OutOfMemory, Text};
 use rt_tables::{read_thin_sizes, read_thin_tech, same_masks};
 use rt_tech::{Tech, Which};
 use std::alloc::Global;
 
-/// What the four files hold.
+/// What the tables and the sizes file hold.
 #[derive(Drop)]
-pub struct ReadFiles {
-    /// The cell of the source.
-    pub cell: Flat,
+pub struct Tables {
     /// The source's rule table.
     pub source: Tech,
     /// The target's rule table.
     pub target: Tech,
+    /// The name of the cell.
+    pub cell: Text,
 }
 
-/// What the four files hold, or None where they aren't thin by themselves.
-pub fn read_files(
+/// What the tables and the sizes file hold, or None where they aren't thin.
+pub fn read_tables(
     alloc: Global,
-    source: &[u8],
     stable: &[u8],
     ttable: &[u8],
     sizes: &[u8],
-) -> Result<Option<ReadFiles>, OutOfMemory>
+) -> Result<Option<Tables>, OutOfMemory>
     ensures { IfOk result (λ found. MatchOption found
-        ((cell : FlatValue) (s t : TechValue) → AreReadAs source.now stable.now ttable.now sizes.now cell s t → ⊥)
-        (λ r. AreReadAs source.now stable.now ttable.now sizes.now r.cell r.source r.target)) }
+        ((s t : TechValue) (cell : ListValue ℕ) → AreTables stable.now ttable.now sizes.now s t cell → ⊥)
+        (λ r. AreTables stable.now ttable.now sizes.now r.source r.target r.cell)) }
 {
-    let Some(cell) = read_own(alloc, source)? else {
-        return Ok(None);
-    };
     let Some(source) = read_thin_tech(alloc, stable, Which::Source)? else {
         return Ok(None);
     };
     let Some(target) = read_thin_tech(alloc, ttable, Which::Target)? else {
         return Ok(None);
     };
-    let Some(name) = read_thin_sizes(alloc, sizes)? else {
+    let Some(cell) = read_thin_sizes(alloc, sizes)? else {
         return Ok(None);
     };
-    if agree(&cell, &source, &target, &name) {
-        Ok(Some(ReadFiles {
-            cell,
+    if same_masks(&source, &target) {
+        Ok(Some(Tables {
             source,
             target,
+            cell,
         }))
     } else {
         Ok(None)
     }
 }
 
-// Whether the two tables have the same mask names, and the name is the cell's.
-fn agree(cell: &Flat, source: &Tech, target: &Tech, name: &Text) -> bool
-    ensures { MatchBool result
-        (HaveSameNames source.now target.now × (name.now ≡ cell.now.name))
-        (HaveSameNames source.now target.now × (name.now ≡ cell.now.name) → ⊥) }
+/// The library that the source holds, or where and why it is no stream.
+pub fn read_library(alloc: Global, source: &[u8]) -> Result<Library, Fault>
+    ensures stream { IfOk result (λ library. Stream source.now library) }
+    ensures refused { IfErr result (IsStreamFaultOf source.now) }
 {
-    if !same_masks(source, target) {
-        return false;
+    match read_stream(alloc, source) {
+        Ok(library) => Ok(library),
+        Err(StreamError::At { offset, cause }) => Err(Fault::BadStream { offset, cause }),
+        Err(StreamError::OutOfMemory) => Err(Fault::OutOfMemory),
     }
-    is_same_text(name, &cell.name)
-}
-
-// Whether the two texts have the same bytes.
-fn is_same_text(a: &Text, b: &Text) -> bool
-    ensures { MatchBool result (a.now ≡ b.now) (a.now ≡ b.now → ⊥) }
-{
-    a.as_slice() == b.as_slice()
 }

@@ -1,4 +1,4 @@
-ghost use Rattle.rt_retarget.specs.Exclusion.{DoneIsSound, DoneIsThin};
+ghost use Rattle.rt_retarget.specs.Exclusion.{DoneIsSound, DoneIsThin, NotBuiltIsNotThin, NoStreamIsAlone};
 
 /// A law for callers: files whose cell is moved are never refused for a broken rule, so that `SourceRule` comes
 /// exactly where the files are thin input and a rule is broken.
@@ -7,7 +7,19 @@ pub fn done_is_sound()
 {}
 
 /// A law for callers: files whose cell is moved are thin input. So are those that are refused for a broken rule, by that
-/// answer's own clause. So `NotBuilt` comes exactly where the files aren't thin input, want of memory aside.
+/// answer's own clause.
 pub fn done_is_thin()
     ensures { DoneIsThin }
+{}
+
+/// A law for callers: what is refused as not built is no thin input. So `NotBuilt` and the answers for thin input exclude
+/// each other.
+pub fn not_built_is_not_thin()
+    ensures { NotBuiltIsNotThin }
+{}
+
+/// A law for callers: files whose source is no stream are neither thin input nor refused as not built. So `BadStream` comes
+/// exactly where the tables and the sizes file are thin and the source is no stream, want of memory aside.
+pub fn no_stream_is_alone()
+    ensures { NoStreamIsAlone }
 {}

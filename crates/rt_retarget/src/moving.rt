@@ -1,17 +1,18 @@
-ghost use Rattle.std.specs.Prelude.{IfOk, IfErr, OnOk, MatchOption, map};
+ghost use Rattle.std.specs.Prelude.{IfOk, IfErr, OnOk, map};
 ghost use Rattle.rt_tech.specs.Tech.{IsValidTech};
+ghost use Rattle.gds_stream.specs.Contents.{Stream};
 ghost use Rattle.rt_template.specs.Strips.{placed};
 ghost use Rattle.rt_template.specs.Rules.{BreaksNoRule};
 ghost use Rattle.rt_template.specs.Separate.{AreSeparateStrips, AreOnMasksOf};
-ghost use Rattle.rt_retarget.specs.Thin.{ThinInput};
 ghost use Rattle.rt_retarget.specs.Making.{IsThinCase};
 ghost use Rattle.rt_retarget.specs.Answers.{IsOutcomeOf, IsFaultOf, IsSourceFaultOf};
 
 use crate::answer::{Fault, Outcome};
-use crate::files::{ReadFiles, read_files};
+use crate::files::{Tables, read_library, read_tables};
 use crate::layout::lay_out;
 use crate::making::{job_of, stream_of};
-use rt_base::{List, OutOfMemory};
+use gds_stream::Library;
+use rt_base::List;
 use rt_drc::check_rules;
 use rt_tech::{RuleError, Tech};
 use rt_template::Strip;
@@ -20,15 +21,17 @@ use std::alloc::Global;
 // Thin input: what the files hold, and the rectangles of the source on the masks of its table.
 #[derive(Drop)]
 struct Thin {
-    files: ReadFiles,
+    tables: Tables,
+    library: Library,
     rectangles: Vec<Strip>,
 }
 
 /// Moves the cell of a source stream to the target's rules, at the least positions that keep its arrangement.
 ///
-/// The four files are the source stream, its rule table, the target's rule table and the sizes file. `NotBuilt`
-/// comes exactly where they aren't thin input, `SourceRule` exactly where they are and the source breaks a rule of
-/// its table, and `OutOfMemory` only for want of memory.
+/// The four files are the source stream, its rule table, the target's rule table and the sizes file. `NotBuilt` comes
+/// exactly where the tables and the sizes file aren't thin, or the source is a stream that isn't thin; `BadStream`
+/// exactly where the tables and the sizes file are thin and the source is no stream; `SourceRule` exactly where the files
+/// are thin input and the source breaks a rule of its table; and `OutOfMemory` only for want of memory.
 pub fn retarget(
     alloc: Global,
     source: &[u8],
@@ -39,13 +42,14 @@ pub fn retarget(
     ensures done { IfOk result (IsOutcomeOf source.now stable.now ttable.now sizes.now) }
     ensures refused { IfErr result (IsFaultOf source.now stable.now ttable.now sizes.now) }
 {
-    let Some(thin) = thin_input(alloc, source, stable, ttable, sizes)? else {
-        return Err(Fault::NotBuilt);
-    };
-    let Thin { files, rectangles } = thin;
-    check_source(rectangles.as_slice(), &files.source)?;
-    let job = job_of(alloc, rectangles, files.source, files.target)?;
-    let bytes = stream_of(alloc, &job, &files.cell.library, &files.cell.name)?;
+    let Thin {
+        tables,
+        library,
+        rectangles,
+    } = thin_input(alloc, source, stable, ttable, sizes)?;
+    check_source(rectangles.as_slice(), &tables.source)?;
+    let job = job_of(alloc, rectangles, tables.source, tables.target)?;
+    let bytes = stream_of(alloc, &job, &library.name, &tables.cell)?;
     Ok(Outcome::Done {
         gds: List::of(bytes),
         cert: List::new(alloc),
@@ -53,25 +57,37 @@ pub fn retarget(
     })
 }
 
-// What the four files hold, or None where they aren't thin input.
+// Thin input, or why the files aren't it.
 fn thin_input(
     alloc: Global,
     source: &[u8],
     stable: &[u8],
     ttable: &[u8],
     sizes: &[u8],
-) -> Result<Option<Thin>, OutOfMemory>
-    ensures { IfOk result (λ found. MatchOption found
-        (ThinInput source.now stable.now ttable.now sizes.now → ⊥)
-        (λ thin. IsThinCase source.now stable.now ttable.now sizes.now thin.files.cell thin.files.source thin.files.target (map placed thin.rectangles.items))) }
+) -> Result<Thin, Fault>
+    ensures stream { IfOk result (λ thin. Stream source.now thin.library) }
+    ensures thin { IfOk result (λ thin. IsThinCase stable.now ttable.now sizes.now thin.library thin.tables.cell thin.tables.source thin.tables.target (map placed thin.rectangles.items)) }
+    ensures refused { IfErr result (IsFaultOf source.now stable.now ttable.now sizes.now) }
 {
-    let Some(files) = read_files(alloc, source, stable, ttable, sizes)? else {
-        return Ok(None);
+    let Some(tables) = read_tables(alloc, stable, ttable, sizes)? else {
+        return Err(Fault::NotBuilt);
     };
-    match lay_out(alloc, &files.cell, &files.source, &files.target)? {
-        Some(rectangles) => Ok(Some(Thin { files, rectangles })),
-        None => Ok(None),
-    }
+    let library = read_library(alloc, source)?;
+    let Some(rectangles) = lay_out(
+        alloc,
+        &library,
+        &tables.cell,
+        &tables.source,
+        &tables.target,
+    )?
+    else {
+        return Err(Fault::NotBuilt);
+    };
+    Ok(Thin {
+        tables,
+        library,
+        rectangles,
+    })
 }
 
 // That the rectangles break no rule of the source's table, or the first rule that they break.

@@ -1,0 +1,6 @@
+pub mod Held
+pub mod Words
+pub mod PieceValues
+pub mod Contexts
+pub mod PointCounts
+pub mod LawfulValues

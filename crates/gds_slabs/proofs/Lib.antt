@@ -1,0 +1,14 @@
+pub mod Parity
+pub mod Members
+pub mod Odds
+pub mod Levels
+pub mod Crossings
+pub mod Polygons
+pub mod Ordered
+pub mod Listing
+pub mod Coverings
+pub mod Paths
+pub mod Slants
+pub mod Placing
+pub mod PathAreas
+pub mod Counts

@@ -1,0 +1,7 @@
+use Rattle.std.proofs.Common.{arith}
+use Rattle.std.proofs.lemmas.Int.{ints}
+use Rattle.gds_slabs.proofs.Coverings.{same_sides}
+use Rattle.gds_slabs.proofs.moves.quarter_rect.Goals as goal
+
+pub returns : goal.returns
+returns c = same_sides _ _ (omega (arith, ints)) (omega (arith, ints)) (omega (arith, ints)) (omega (arith, ints))

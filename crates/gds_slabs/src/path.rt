@@ -1,0 +1,8 @@
+/// How a path ends. (GDSII Release 6: PATHTYPE.)
+#[derive(Clone, Copy, Debug, PartialEq, Eq, Drop)]
+pub enum PathEnd {
+    /// Flush with the first and the last point: type 0.
+    Flush,
+    /// Half the width beyond the first and the last point: type 2.
+    Square,
+}

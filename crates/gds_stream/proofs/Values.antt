@@ -1,0 +1,149 @@
+-- What the records of an element hold.
+use Rattle.std.proofs.Common.{◌≡◌, ℕ, ℤ, Bool, true, false, eqb, List, [], ◌∷◌, ◌++◌, take, drop, replicate, Option, Some, None, unwrap_or, Ok, refl, sym, subst, if◌then◌else◌}
+use Rattle.std.specs.Int.{w16, from_be_bytes}
+use Rattle.gds_records.specs.declared.types.TheConstants.{BOUNDARY, PATH, SREF, AREF, TEXT, LAYER, DATATYPE, WIDTH, XY, SNAME, COLROW, NODE, TEXTTYPE, PRESENTATION, STRING, STRANS, MAG, ANGLE, PATHTYPE, BOX, BOXTYPE, BGNEXTN, ENDEXTN}
+use Rattle.rt_base.specs.declared.plane.Point.{Point}
+use Rattle.gds_records.specs.Records.{Item}
+use Rattle.gds_grammar.specs.Grammar.{maybe}
+use Rattle.gds_grammar.specs.Format.{head, turn}
+use Rattle.gds_grammar.specs.Conditions.{is_in, starts, trim}
+use Rattle.gds_grammar.specs.Reading.{Cursor, read}
+use Rattle.gds_stream.specs.declared.library.Place.{Place}
+use Rattle.gds_stream.specs.declared.library.Element.{Element}
+use Rattle.gds_stream.specs.declared.library.Element.TheVariants.{Boundary, Path, Sref, Aref, Label, BoxShape}
+use Rattle.gds_stream.specs.Contents.{held, two_bytes, four_bytes, points_in, first_of, real_one, place_in, element_of}
+use Rattle.gds_stream.specs.Gives.{IsOne, IsOneOrNone, IsShape}
+use Rattle.gds_stream.proofs.Lacking.{held-append, not_held, or_nothing}
+
+-- records that hold these data of the one type, and nothing of others
+pub record Only (code : ℕ) (data_there : Option (List ℕ)) (items : List Item) : Type 0 where
+  pub held_is : (c : ℕ) → held c items ≡ (if eqb code c then data_there else None)
+
+pub one_only : (at code : ℕ) (body : List ℕ) (items : List Item) → IsOne at code body items → Only code (Some body) items
+one_only at code body items is = let OnlyIt : List Item → Type 0 = Only code (Some body) in subst OnlyIt (sym is.1) (record { held_is = λ c. refl })
+
+none_either : (b : Bool) → (let n : Option (List ℕ) = None in n) ≡ (if b then None else None)
+none_either true = refl
+none_either false = refl
+
+none_only : (code : ℕ) → Only code None []
+none_only code = record { held_is = λ c. none_either (eqb code c) }
+
+pub maybe_only : (at code : ℕ) (found : Option (List ℕ)) (items : List Item) → IsOneOrNone at code found items → Only code found items
+maybe_only at code None items is = let OnlyIt : List Item → Type 0 = Only code None in subst OnlyIt (sym is) (none_only code)
+maybe_only at code (Some body) items is = one_only at code body items is
+
+-- records that hold nothing of the types that are looked up in elements
+pub record Nothing (items : List Item) : Type 0 where
+  pub layer : held LAYER items ≡ None
+  pub datatype : held DATATYPE items ≡ None
+  pub texttype : held TEXTTYPE items ≡ None
+  pub boxtype : held BOXTYPE items ≡ None
+  pub pathtype : held PATHTYPE items ≡ None
+  pub width : held WIDTH items ≡ None
+  pub xy : held XY items ≡ None
+  pub sname : held SNAME items ≡ None
+  pub colrow : held COLROW items ≡ None
+  pub string : held STRING items ≡ None
+  pub strans : held STRANS items ≡ None
+  pub mag : held MAG items ≡ None
+  pub angle : held ANGLE items ≡ None
+
+-- none stands at the head of an element
+pub head_nothing : (c d : Cursor) (items : List Item) → read head c ≡ Ok (items, d) → Nothing items
+unfolding head
+head_nothing c d items is =
+    let never = not_held head in
+    record {
+      layer = never LAYER c d items is refl;
+      datatype = never DATATYPE c d items is refl;
+      texttype = never TEXTTYPE c d items is refl;
+      boxtype = never BOXTYPE c d items is refl;
+      pathtype = never PATHTYPE c d items is refl;
+      width = never WIDTH c d items is refl;
+      xy = never XY c d items is refl;
+      sname = never SNAME c d items is refl;
+      colrow = never COLROW c d items is refl;
+      string = never STRING c d items is refl;
+      strans = never STRANS c d items is refl;
+      mag = never MAG c d items is refl;
+      angle = never ANGLE c d items is refl;
+    }
+
+-- the first record tells the element
+begun : (at code : ℕ) (body : List ℕ) (s more : List Item) (o : Option Element) → is_in starts code ≡ true → IsOne at code body s
+    → ((form : ℕ) → element_of (record { at = at; code = code; form = form; body = body } ∷ more) ≡ o) → IsShape (s ++ more) o
+begun at code body s more o starts_it is gives =
+    let Holds : List Item → Type 0 = λ items. IsShape (items ++ more) o in
+    subst Holds (sym is.1) (record { first = record { at = at; code = code; form = is.0; body = body }; more = more; begins = refl; starts = starts_it; gives = gives is.0 })
+
+-- what a turn's records hold besides
+pub record NotThere (items : List Item) : Type 0 where
+  pub xy : held XY items ≡ None
+  pub colrow : held COLROW items ≡ None
+  pub string : held STRING items ≡ None
+
+pub turn_not_there : (c d : Cursor) (items : List Item) → read (maybe turn) c ≡ Ok (items, d) → NotThere items
+unfolding turn
+turn_not_there c d items is =
+    let never = not_held (maybe turn) in
+    record {
+      xy = never XY c d items is refl;
+      colrow = never COLROW c d items is refl;
+      string = never STRING c d items is refl;
+    }
+
+pub boundary_is : (at offset : ℕ) (n m : ℤ) (points : List Point) (body layer datatype xy : List ℕ) (s h l d x : List Item)
+    → IsOne at BOUNDARY body s → Nothing h → Only LAYER (Some layer) l → Only DATATYPE (Some datatype) d → Only XY (Some xy) x
+    → offset ≡ at → n ≡ two_bytes layer → m ≡ two_bytes datatype → points ≡ points_in xy
+    → IsShape (s ++ (h ++ (l ++ (d ++ x)))) (Some (Boundary offset n m points))
+boundary_is at offset n m points body layer datatype xy s h l d x is_s no_h is_l is_d is_x is_offset is_n is_m are_points =
+    begun at BOUNDARY body s (h ++ (l ++ (d ++ x))) _ refl is_s
+    (λ form. simp (is_offset, is_n, is_m, are_points, held-append, no_h.layer, no_h.datatype, no_h.xy, is_l.held_is, is_d.held_is, is_x.held_is) refl)
+
+pub path_is : (at offset : ℕ) (n m p2 w4 : ℤ) (points : List Point) (body layer datatype xy : List ℕ) (pathtype width begin end : Option (List ℕ)) (s h l d p w b e x : List Item)
+    → IsOne at PATH body s → Nothing h → Only LAYER (Some layer) l → Only DATATYPE (Some datatype) d → Only PATHTYPE pathtype p → Only WIDTH width w → Only BGNEXTN begin b → Only ENDEXTN end e → Only XY (Some xy) x
+    → offset ≡ at → n ≡ two_bytes layer → m ≡ two_bytes datatype → p2 ≡ two_bytes (unwrap_or pathtype (0 ∷ 0 ∷ [])) → w4 ≡ four_bytes (unwrap_or width (0 ∷ 0 ∷ 0 ∷ 0 ∷ [])) → points ≡ points_in xy
+    → IsShape (s ++ (h ++ (l ++ (d ++ (p ++ (w ++ (b ++ (e ++ x)))))))) (Some (Path offset n m p2 w4 points))
+path_is at offset n m p2 w4 points body layer datatype xy pathtype width begin end s h l d p w b e x is_s no_h is_l is_d is_p is_w is_b is_e is_x is_offset is_n is_m is_p2 is_w4 are_points =
+    begun at PATH body s (h ++ (l ++ (d ++ (p ++ (w ++ (b ++ (e ++ x))))))) _ refl is_s
+    (λ form. simp (is_offset, is_n, is_m, is_p2, is_w4, are_points, held-append, no_h.layer, no_h.datatype, no_h.pathtype, no_h.width, no_h.xy, is_l.held_is, is_d.held_is, is_p.held_is, is_w.held_is, is_b.held_is, is_e.held_is, is_x.held_is, or_nothing) refl)
+
+pub sref_is : (at offset : ℕ) (text : List ℕ) (place : Place) (point : Point) (body name xy : List ℕ) (s h n t x : List Item)
+    → IsOne at SREF body s → Nothing h → Only SNAME (Some name) n → NotThere t → Only XY (Some xy) x
+    → offset ≡ at → text ≡ trim name → place_in t ≡ place → point ≡ first_of (points_in xy)
+    → IsShape (s ++ (h ++ (n ++ (t ++ x)))) (Some (Sref offset text place point))
+sref_is at offset text place point body name xy s h n t x is_s no_h is_n no_t is_x is_offset is_text is_place is_point =
+    begun at SREF body s (h ++ (n ++ (t ++ x))) _ refl is_s
+    (λ form. simp (is_offset, is_text, sym is_place, is_point, held-append, no_h.sname, no_h.xy, no_h.strans, no_h.mag, no_h.angle, is_n.held_is, no_t.xy, is_x.held_is, or_nothing) refl)
+
+pub aref_is : (at offset : ℕ) (text : List ℕ) (place : Place) (columns rows : ℤ) (points : List Point) (body name counts xy : List ℕ) (s h n t c x : List Item)
+    → IsOne at AREF body s → Nothing h → Only SNAME (Some name) n → NotThere t → Only COLROW (Some counts) c → Only XY (Some xy) x
+    → offset ≡ at → text ≡ trim name → place_in t ≡ place → columns ≡ two_bytes (take 2 counts) → rows ≡ two_bytes (drop 2 counts) → points ≡ points_in xy
+    → IsShape (s ++ (h ++ (n ++ (t ++ (c ++ x))))) (Some (Aref offset text place columns rows points))
+aref_is at offset text place columns rows points body name counts xy s h n t c x is_s no_h is_n no_t is_c is_x is_offset is_text is_place are_columns are_rows are_points =
+    begun at AREF body s (h ++ (n ++ (t ++ (c ++ x)))) _ refl is_s
+    (λ form. simp (is_offset, is_text, sym is_place, are_columns, are_rows, are_points, held-append, no_h.sname, no_h.xy, no_h.colrow, no_h.strans, no_h.mag, no_h.angle, is_n.held_is, no_t.xy, no_t.colrow, is_c.held_is, is_x.held_is, or_nothing) refl)
+
+pub label_is : (at offset : ℕ) (n m : ℤ) (point : Point) (text : List ℕ) (body layer texttype xy string : List ℕ) (shown pathtype width : Option (List ℕ)) (s h l y r p w t x g : List Item)
+    → IsOne at TEXT body s → Nothing h → Only LAYER (Some layer) l → Only TEXTTYPE (Some texttype) y → Only PRESENTATION shown r → Only PATHTYPE pathtype p → Only WIDTH width w → NotThere t → Only XY (Some xy) x → Only STRING (Some string) g
+    → offset ≡ at → n ≡ two_bytes layer → m ≡ two_bytes texttype → point ≡ first_of (points_in xy) → text ≡ trim string
+    → IsShape (s ++ (h ++ (l ++ (y ++ (r ++ (p ++ (w ++ (t ++ (x ++ g))))))))) (Some (Label offset n m point text))
+label_is at offset n m point text body layer texttype xy string shown pathtype width s h l y r p w t x g is_s no_h is_l is_y is_r is_p is_w no_t is_x is_g is_offset is_n is_m is_point is_text =
+    begun at TEXT body s (h ++ (l ++ (y ++ (r ++ (p ++ (w ++ (t ++ (x ++ g)))))))) _ refl is_s
+    (λ form. simp (is_offset, is_n, is_m, is_point, is_text, held-append, no_h.layer, no_h.texttype, no_h.xy, no_h.string, is_l.held_is, is_y.held_is, is_r.held_is, is_p.held_is, is_w.held_is, no_t.xy, no_t.string, is_x.held_is, is_g.held_is) refl)
+
+pub node_is : (at : ℕ) (body : List ℕ) (s more : List Item) → IsOne at NODE body s → IsShape (s ++ more) None
+node_is at body s more is_s = begun at NODE body s more None refl is_s (λ form. refl)
+
+pub box_is : (at offset : ℕ) (n m : ℤ) (body layer boxtype : List ℕ) (s h l y x : List Item)
+    → IsOne at BOX body s → Nothing h → Only LAYER (Some layer) l → Only BOXTYPE (Some boxtype) y
+    → offset ≡ at → n ≡ two_bytes layer → m ≡ two_bytes boxtype → IsShape (s ++ (h ++ (l ++ (y ++ x)))) (Some (BoxShape offset n m))
+box_is at offset n m body layer boxtype s h l y x is_s no_h is_l is_y is_offset is_n is_m =
+    begun at BOX body s (h ++ (l ++ (y ++ x))) _ refl is_s
+    (λ form. simp (is_offset, is_n, is_m, held-append, no_h.layer, no_h.boxtype, is_l.held_is, is_y.held_is) refl)
+
+pub turn_is : (flags : ℕ) (mag angle : List ℕ) (body : List ℕ) (by to : Option (List ℕ)) (s m a : List Item) → Only STRANS (Some body) s → Only MAG by m → Only ANGLE to a
+    → flags ≡ from_be_bytes w16 body → mag ≡ unwrap_or by real_one → angle ≡ unwrap_or to (replicate 8 0) → place_in (s ++ (m ++ a)) ≡ record { flags = flags; mag = mag; angle = angle }
+turn_is flags mag angle body by to s m a is_s is_m is_a is_flags is_mag is_angle =
+    simp (is_flags, is_mag, is_angle, held-append, is_s.held_is, is_m.held_is, is_a.held_is, or_nothing) refl

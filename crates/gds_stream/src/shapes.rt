@@ -1,0 +1,226 @@
+ghost use Rattle.std.specs.Prelude.{◌≡◌, List, Some, None, IfOk, OnOk};
+ghost use Rattle.gds_records.specs.Records.{Item};
+ghost use Rattle.gds_grammar.specs.Grammar as grammar;
+ghost use Rattle.gds_grammar.specs.Format as rules;
+ghost use Rattle.gds_stream.specs.Contents.{place_in};
+ghost use Rattle.gds_stream.specs.Gives.{Gives, IsShape, shape};
+
+use crate::data::{
+    i16_of, i16_or_zero, i32_or_zero, point_of, points_of, real_or, text_of, three_points, u16_of,
+};
+use crate::error::StreamError;
+use crate::library::{Element, Place};
+use crate::reader::Reader;
+use gds_records::{
+    ANGLE, AREF, BGNEXTN, BOUNDARY, BOX, BOXTYPE, COLROW, DATATYPE, ELFLAGS, ENDEXTN, LAYER, MAG,
+    NODE, NODETYPE, PATH, PATHTYPE, PLEX, PRESENTATION, SNAME, SREF, STRANS, STRING, TEXT,
+    TEXTTYPE, WIDTH, XY,
+};
+
+// The real 1.
+const ONE: [u8; 8] = [0x41, 0x10, 0, 0, 0, 0, 0, 0];
+
+// The real 0.
+const ZERO: [u8; 8] = [0, 0, 0, 0, 0, 0, 0, 0];
+
+impl<'a> Reader<'a> {
+    /// One of the seven elements. A node gives none.
+    pub fn shape(&mut self) -> Result<Option<Element>, StreamError>
+        ensures { Gives shape IsShape self.old self.new result }
+    {
+        match self.peek()?.code {
+            BOUNDARY => self.boundary(),
+            PATH => self.path(),
+            SREF => self.sref(),
+            AREF => self.aref(),
+            TEXT => self.label(),
+            NODE => self.node(),
+            _ => self.box_shape(),
+        }
+    }
+
+    // What may stand at the head of an element.
+    #[tactic(auto, unfolding(gds_grammar::specs::Format::head), using(crate::proofs::Giving::steps))]
+    fn head(&mut self) -> Result<(), StreamError>
+        ensures gives { Gives rules.head (λ _ _. Unit {0}) self.old self.new result }
+        ensures kind { OnOk result (self.new.kind ≡ self.old.kind) }
+    {
+        self.maybe(ELFLAGS)?;
+        self.maybe(PLEX)?;
+        Ok(())
+    }
+
+    // A polygon.
+    #[tactic(auto, unfolding(gds_grammar::specs::Format::boundary), using(crate::proofs::Giving::steps))]
+    fn boundary(&mut self) -> Result<Option<Element>, StreamError>
+        ensures { Gives rules.boundary IsShape self.old self.new result }
+    {
+        let offset = self.place();
+        self.take(BOUNDARY)?;
+        self.head()?;
+        let layer = self.take(LAYER)?;
+        let datatype = self.take(DATATYPE)?;
+        let xy = self.take(XY)?;
+        Ok(Some(Element::Boundary {
+            offset,
+            layer: i16_of(layer),
+            datatype: i16_of(datatype),
+            points: points_of(self.alloc(), xy)?,
+        }))
+    }
+
+    // A path.
+    #[tactic(auto, unfolding(gds_grammar::specs::Format::path), using(crate::proofs::Giving::steps))]
+    fn path(&mut self) -> Result<Option<Element>, StreamError>
+        ensures { Gives rules.path IsShape self.old self.new result }
+    {
+        let offset = self.place();
+        self.take(PATH)?;
+        self.head()?;
+        let layer = self.take(LAYER)?;
+        let datatype = self.take(DATATYPE)?;
+        let pathtype = self.maybe(PATHTYPE)?;
+        let width = self.maybe(WIDTH)?;
+        self.maybe(BGNEXTN)?;
+        self.maybe(ENDEXTN)?;
+        let xy = self.take(XY)?;
+        Ok(Some(Element::Path {
+            offset,
+            layer: i16_of(layer),
+            datatype: i16_of(datatype),
+            pathtype: i16_or_zero(pathtype),
+            width: i32_or_zero(width),
+            points: points_of(self.alloc(), xy)?,
+        }))
+    }
+
+    // A structure that is placed once.
+    #[tactic(auto, unfolding(gds_grammar::specs::Format::sref), using(crate::proofs::Giving::steps))]
+    fn sref(&mut self) -> Result<Option<Element>, StreamError>
+        ensures { Gives rules.sref IsShape self.old self.new result }
+    {
+        let offset = self.place();
+        self.take(SREF)?;
+        self.head()?;
+        let name = self.take(SNAME)?;
+        let place = self.placing()?;
+        let xy = self.take(XY)?;
+        Ok(Some(Element::Sref {
+            offset,
+            name: text_of(self.alloc(), name)?,
+            place,
+            at: point_of(xy),
+        }))
+    }
+
+    // A structure that is placed in columns and rows.
+    #[tactic(auto, unfolding(gds_grammar::specs::Format::aref), using(crate::proofs::Giving::steps))]
+    fn aref(&mut self) -> Result<Option<Element>, StreamError>
+        ensures { Gives rules.aref IsShape self.old self.new result }
+    {
+        let offset = self.place();
+        self.take(AREF)?;
+        self.head()?;
+        let name = self.take(SNAME)?;
+        let place = self.placing()?;
+        let counts = self.take(COLROW)?;
+        let xy = self.take(XY)?;
+        Ok(Some(Element::Aref {
+            offset,
+            name: text_of(self.alloc(), name)?,
+            place,
+            columns: i16_of(&counts[..2]),
+            rows: i16_of(&counts[2..]),
+            points: three_points(xy),
+        }))
+    }
+
+    // How a placement turns, if it says so.
+    #[tactic(auto, using(crate::proofs::Giving::choices))]
+    fn placing(&mut self) -> Result<Place, StreamError>
+        ensures gives { Gives (grammar.maybe rules.turn) (λ items place. place_in items ≡ place) self.old self.new result }
+        ensures kind { OnOk result (self.new.kind ≡ self.old.kind) }
+    {
+        if self.sees(&[STRANS])? {
+            self.turn()
+        } else {
+            Ok(Place {
+                flags: 0,
+                mag: ONE,
+                angle: ZERO,
+            })
+        }
+    }
+
+    // How a placement turns.
+    #[tactic(auto, unfolding(gds_grammar::specs::Format::turn), using(crate::proofs::Giving::steps))]
+    fn turn(&mut self) -> Result<Place, StreamError>
+        ensures gives { Gives rules.turn (λ items place. place_in items ≡ place) self.old self.new result }
+        ensures kind { OnOk result (self.new.kind ≡ self.old.kind) }
+    {
+        let flags = self.take(STRANS)?;
+        let mag = self.maybe(MAG)?;
+        let angle = self.maybe(ANGLE)?;
+        Ok(Place {
+            flags: u16_of(flags),
+            mag: real_or(mag, ONE),
+            angle: real_or(angle, ZERO),
+        })
+    }
+
+    // A text.
+    #[tactic(auto, unfolding(gds_grammar::specs::Format::label), using(crate::proofs::Giving::steps))]
+    fn label(&mut self) -> Result<Option<Element>, StreamError>
+        ensures { Gives rules.label IsShape self.old self.new result }
+    {
+        let offset = self.place();
+        self.take(TEXT)?;
+        self.head()?;
+        let layer = self.take(LAYER)?;
+        let texttype = self.take(TEXTTYPE)?;
+        self.maybe(PRESENTATION)?;
+        self.maybe(PATHTYPE)?;
+        self.maybe(WIDTH)?;
+        self.placing()?;
+        let xy = self.take(XY)?;
+        let text = self.take(STRING)?;
+        Ok(Some(Element::Label {
+            offset,
+            layer: i16_of(layer),
+            texttype: i16_of(texttype),
+            at: point_of(xy),
+            text: text_of(self.alloc(), text)?,
+        }))
+    }
+
+    // A node, which gives no element.
+    #[tactic(auto, unfolding(gds_grammar::specs::Format::node), using(crate::proofs::Giving::steps))]
+    fn node(&mut self) -> Result<Option<Element>, StreamError>
+        ensures { Gives rules.node IsShape self.old self.new result }
+    {
+        self.take(NODE)?;
+        self.head()?;
+        self.take(LAYER)?;
+        self.take(NODETYPE)?;
+        self.take(XY)?;
+        Ok(None)
+    }
+
+    // A box.
+    #[tactic(auto, using(crate::proofs::Giving::steps, crate::proofs::Giving::of_box))]
+    fn box_shape(&mut self) -> Result<Option<Element>, StreamError>
+        ensures { Gives rules.box IsShape self.old self.new result }
+    {
+        let offset = self.place();
+        self.take(BOX)?;
+        self.head()?;
+        let layer = self.take(LAYER)?;
+        let boxtype = self.take(BOXTYPE)?;
+        self.take(XY)?;
+        Ok(Some(Element::BoxShape {
+            offset,
+            layer: i16_of(layer),
+            boxtype: i16_of(boxtype),
+        }))
+    }
+}
