@@ -4,3 +4,4 @@ pub mod PieceValues
 pub mod Contexts
 pub mod PointCounts
 pub mod LawfulValues
+pub mod Again
