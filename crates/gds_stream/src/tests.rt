@@ -1,6 +1,13 @@
 ghost use Rattle.std.specs.Prelude.{◌≡◌, ◌<◌, ◌≤◌, [], ◌∷◌, length, IfOk};
 
 use super::*;
+use gds_records::{
+    ANGLE, AREF, BGNEXTN, BGNLIB, BGNSTR, BITS, BOUNDARY, BOX, BOXTYPE, CHARACTERS, COLROW,
+    DATATYPE, ELFLAGS, ENDEL, ENDEXTN, ENDLIB, ENDSTR, FOUR_BYTES, HEADER, LAYER, LIBNAME, MAG,
+    NO_DATA, NODE, NODETYPE, PATH, PATHTYPE, PLEX, PRESENTATION, PROPATTR, PROPVALUE, REAL,
+    REFLIBS, SNAME, SREF, STRANS, STRING, STRNAME, TEXT, TEXTTYPE, TWO_BYTES, UNITS as UNITS_TYPE,
+    WIDTH, XY,
+};
 use rt_base::{List, Point, Text};
 use std::alloc::Global;
 use std::test::Fail;
@@ -442,6 +449,240 @@ fn refuses_pieces_in_wrong_places(rt: HostRuntime) -> Result<(), Fail> {
             )?;
             assert_eq!(rt; refusal(rt.alloc(), &bytes), Some((offset, cause)));
         }
+    }
+    Ok(())
+}
+
+// The data type and the length of the data that a record of a type has here, where an element has so many points.
+fn data_of(code: u8, points: u8) -> (u8, u8)
+    requires { points ≤ 5 }
+    ensures { result.1 ≤ 40 }
+{
+    match code {
+        ELFLAGS | PRESENTATION | STRANS => (BITS, 2),
+        HEADER | LAYER | DATATYPE | TEXTTYPE | PATHTYPE => (TWO_BYTES, 2),
+        NODETYPE | BOXTYPE | PROPATTR => (TWO_BYTES, 2),
+        COLROW => (TWO_BYTES, 4),
+        BGNLIB | BGNSTR => (TWO_BYTES, 24),
+        PLEX | WIDTH | BGNEXTN | ENDEXTN => (FOUR_BYTES, 4),
+        XY => (FOUR_BYTES, 8 * points),
+        MAG | ANGLE => (REAL, 8),
+        UNITS_TYPE => (REAL, 16),
+        LIBNAME | STRNAME | SNAME | STRING | PROPVALUE | REFLIBS => (CHARACTERS, 2),
+        _ => (NO_DATA, 0),
+    }
+}
+
+// How many points the element that these types begin with has here.
+fn points_in(codes: &[u8]) -> u8
+    ensures { result ≤ 5 }
+{
+    match codes {
+        [SREF | TEXT, ..] => 1,
+        [AREF, ..] => 3,
+        _ => 5,
+    }
+}
+
+// Records of these types. Each byte of their data is the letter A.
+fn records(alloc: Global, codes: &[u8]) -> Result<Vec<u8>, Fail> {
+    let points = points_in(codes);
+    let mut bytes = Vec::new(alloc);
+    for code in codes {
+        let (form, length) = data_of(*code, points);
+        bytes.extend_from_slice(&[0, 4 + length, *code, form])?;
+        bytes.extend_from_slice(&[65; 40][..length as usize])?;
+    }
+    Ok(bytes)
+}
+
+// Records of which one is left out, out of its place or without what it needs: their types, where among them the
+// first one stands with which no stream goes on, and its type. These stand in the place of ONE_RECTANGLE's element,
+// up to its ENDEL.
+const WRONG_ELEMENTS: &[(&[u8], u16, u8)] = &[
+    // a boundary
+    (&[LAYER, DATATYPE, XY], 0, LAYER),
+    (&[BOUNDARY, DATATYPE, XY], 4, DATATYPE),
+    (&[BOUNDARY, LAYER, XY], 10, XY),
+    (&[BOUNDARY, LAYER, DATATYPE], 16, ENDEL),
+    (&[LAYER, BOUNDARY, DATATYPE, XY], 0, LAYER),
+    (&[BOUNDARY, DATATYPE, LAYER, XY], 4, DATATYPE),
+    (&[BOUNDARY, LAYER, XY, DATATYPE], 10, XY),
+    (&[BOUNDARY, LAYER, TEXTTYPE, XY], 10, TEXTTYPE),
+    (&[BOUNDARY, LAYER, DATATYPE, WIDTH, XY], 16, WIDTH),
+    // what stands at an element's head
+    (&[ELFLAGS, BOUNDARY, LAYER, DATATYPE, XY], 0, ELFLAGS),
+    (&[BOUNDARY, PLEX, ELFLAGS, LAYER], 12, ELFLAGS),
+    (&[PATH, ELFLAGS, ELFLAGS, LAYER], 10, ELFLAGS),
+    (&[SREF, PLEX, PLEX, SNAME, XY], 12, PLEX),
+    (&[AREF, SNAME, ELFLAGS, COLROW, XY], 10, ELFLAGS),
+    (&[TEXT, LAYER, PLEX, TEXTTYPE, XY, STRING], 10, PLEX),
+    (&[NODE, PLEX, ELFLAGS, LAYER, NODETYPE], 12, ELFLAGS),
+    (&[BOX, LAYER, PLEX, BOXTYPE, XY], 10, PLEX),
+    // a path
+    (&[PATH, DATATYPE, XY], 4, DATATYPE),
+    (&[PATH, LAYER, PATHTYPE, XY], 10, PATHTYPE),
+    (&[PATH, LAYER, DATATYPE, WIDTH], 24, ENDEL),
+    (&[PATH, DATATYPE, LAYER, XY], 4, DATATYPE),
+    (&[PATH, LAYER, PATHTYPE, DATATYPE, XY], 10, PATHTYPE),
+    (&[PATH, LAYER, DATATYPE, WIDTH, PATHTYPE], 24, PATHTYPE),
+    (&[PATH, LAYER, DATATYPE, BGNEXTN, WIDTH, XY], 24, WIDTH),
+    (&[PATH, LAYER, DATATYPE, ENDEXTN, BGNEXTN], 24, BGNEXTN),
+    (&[PATH, LAYER, DATATYPE, XY, ENDEXTN], 60, ENDEXTN),
+    (&[PATH, LAYER, DATATYPE, STRANS, XY], 16, STRANS),
+    // a reference
+    (&[SREF, XY], 4, XY),
+    (&[SREF, SNAME], 10, ENDEL),
+    (&[SREF, XY, SNAME], 4, XY),
+    (&[SREF, STRANS, SNAME, XY], 4, STRANS),
+    (&[SREF, SNAME, XY, STRANS], 22, STRANS),
+    (&[SREF, SNAME, COLROW, XY], 10, COLROW),
+    (&[SREF, LAYER, SNAME, XY], 4, LAYER),
+    // a turn
+    (&[SREF, SNAME, MAG, XY], 10, MAG),
+    (&[SREF, SNAME, ANGLE, XY], 10, ANGLE),
+    (&[SREF, SNAME, MAG, STRANS, XY], 10, MAG),
+    (&[SREF, SNAME, STRANS, ANGLE, MAG, XY], 28, MAG),
+    (&[SREF, SNAME, STRANS, STRANS, XY], 16, STRANS),
+    (&[AREF, SNAME, ANGLE, COLROW, XY], 10, ANGLE),
+    (&[AREF, SNAME, STRANS, ANGLE, MAG, COLROW], 28, MAG),
+    (&[TEXT, LAYER, TEXTTYPE, MAG, XY, STRING], 16, MAG),
+    (&[TEXT, LAYER, TEXTTYPE, ANGLE, STRANS, XY], 16, ANGLE),
+    // an array
+    (&[AREF, COLROW, XY], 4, COLROW),
+    (&[AREF, SNAME, XY], 10, XY),
+    (&[AREF, SNAME, COLROW], 18, ENDEL),
+    (&[AREF, COLROW, SNAME, XY], 4, COLROW),
+    (&[AREF, STRANS, SNAME, COLROW, XY], 4, STRANS),
+    (&[AREF, SNAME, COLROW, STRANS, XY], 18, STRANS),
+    (&[AREF, SNAME, XY, COLROW], 10, XY),
+    // a text
+    (&[TEXT, TEXTTYPE, XY, STRING], 4, TEXTTYPE),
+    (&[TEXT, LAYER, XY, STRING], 10, XY),
+    (&[TEXT, LAYER, TEXTTYPE, STRING], 16, STRING),
+    (&[TEXT, LAYER, TEXTTYPE, XY], 28, ENDEL),
+    (&[TEXT, TEXTTYPE, LAYER, XY, STRING], 4, TEXTTYPE),
+    (&[TEXT, LAYER, PRESENTATION, TEXTTYPE], 10, PRESENTATION),
+    (&[TEXT, LAYER, WIDTH, TEXTTYPE, XY, STRING], 10, WIDTH),
+    (&[TEXT, LAYER, TEXTTYPE, WIDTH, PATHTYPE], 24, PATHTYPE),
+    (&[TEXT, LAYER, TEXTTYPE, STRANS, WIDTH, XY], 22, WIDTH),
+    (&[TEXT, LAYER, TEXTTYPE, XY, STRANS, STRING], 28, STRANS),
+    (&[TEXT, LAYER, TEXTTYPE, STRING, XY], 16, STRING),
+    (&[TEXT, LAYER, DATATYPE, XY, STRING], 10, DATATYPE),
+    (&[TEXT, LAYER, TEXTTYPE, BGNEXTN, XY], 16, BGNEXTN),
+    (
+        &[TEXT, LAYER, TEXTTYPE, PATHTYPE, PRESENTATION, XY, STRING],
+        22,
+        PRESENTATION,
+    ),
+    // a node
+    (&[NODE, NODETYPE, XY], 4, NODETYPE),
+    (&[NODE, LAYER, XY], 10, XY),
+    (&[NODE, LAYER, NODETYPE], 16, ENDEL),
+    (&[NODE, NODETYPE, LAYER, XY], 4, NODETYPE),
+    (&[NODE, LAYER, XY, NODETYPE], 10, XY),
+    (&[NODE, LAYER, DATATYPE, XY], 10, DATATYPE),
+    // a box
+    (&[BOX, BOXTYPE, XY], 4, BOXTYPE),
+    (&[BOX, LAYER, XY], 10, XY),
+    (&[BOX, LAYER, BOXTYPE], 16, ENDEL),
+    (&[BOX, BOXTYPE, LAYER, XY], 4, BOXTYPE),
+    (&[BOX, LAYER, XY, BOXTYPE], 10, XY),
+    (&[BOX, LAYER, DATATYPE, XY], 10, DATATYPE),
+    // properties, and an element's end
+    (&[BOX, LAYER, BOXTYPE, XY, PROPVALUE], 60, PROPVALUE),
+    (&[BOX, LAYER, BOXTYPE, XY, PROPATTR], 66, ENDEL),
+    (
+        &[BOX, LAYER, BOXTYPE, XY, PROPVALUE, PROPATTR],
+        60,
+        PROPVALUE,
+    ),
+    (&[BOX, LAYER, BOXTYPE, XY, PROPATTR, PROPATTR], 66, PROPATTR),
+    (
+        &[BOX, LAYER, BOXTYPE, PROPATTR, PROPVALUE, XY],
+        16,
+        PROPATTR,
+    ),
+    (&[BOX, LAYER, BOXTYPE, XY, ENDEL, PROPATTR], 64, PROPATTR),
+    (&[BOX, LAYER, BOXTYPE, XY, BOX, LAYER, BOXTYPE, XY], 60, BOX),
+    (&[BOX, LAYER, BOXTYPE, XY, ENDSTR], 60, ENDSTR),
+    (&[BOX, LAYER, BOXTYPE, XY, ENDEL], 64, ENDEL),
+];
+
+// These stand in the place of ONE_RECTANGLE's structure.
+const WRONG_STRUCTURES: &[(&[u8], u16, u8)] = &[
+    (&[STRNAME, ENDSTR], 0, STRNAME),
+    (&[BGNSTR, ENDSTR], 28, ENDSTR),
+    (&[BGNSTR, STRNAME], 34, ENDLIB),
+    (&[STRNAME, BGNSTR, ENDSTR], 0, STRNAME),
+    (&[BGNSTR, ENDSTR, STRNAME], 28, ENDSTR),
+    (&[BGNSTR, STRNAME, ENDLIB, ENDSTR], 34, ENDLIB),
+    (&[BGNSTR, STRNAME, STRNAME, ENDSTR], 34, STRNAME),
+    (&[BGNSTR, STRNAME, BGNSTR, STRNAME, ENDSTR], 34, BGNSTR),
+    (&[BGNSTR, STRNAME, ENDSTR, ENDSTR], 38, ENDSTR),
+    (&[BGNSTR, STRNAME, LAYER, ENDSTR], 34, LAYER),
+    (&[BGNSTR, BOX, LAYER, BOXTYPE, XY, ENDEL, STRNAME], 28, BOX),
+    (&[BGNSTR, STRNAME, ENDSTR, BOX, LAYER, BOXTYPE, XY], 38, BOX),
+    (&[BOX, LAYER, BOXTYPE, XY, ENDEL], 0, BOX),
+    (&[BGNSTR, REFLIBS, STRNAME, ENDSTR], 28, REFLIBS),
+    (&[BGNSTR, STRNAME, BOX, REFLIBS, LAYER], 38, REFLIBS),
+    (&[BGNSTR, STRNAME, ENDSTR, REFLIBS], 38, REFLIBS),
+    (&[REFLIBS, BGNSTR, STRNAME, ENDSTR], 0, REFLIBS),
+];
+
+// These are all that stands before an ENDLIB.
+const WRONG_STREAMS: &[(&[u8], u16, u8)] = &[
+    (&[BGNLIB, LIBNAME, UNITS_TYPE], 0, BGNLIB),
+    (&[HEADER, LIBNAME, UNITS_TYPE], 6, LIBNAME),
+    (&[HEADER, BGNLIB, UNITS_TYPE], 34, UNITS_TYPE),
+    (&[HEADER, BGNLIB, LIBNAME], 40, ENDLIB),
+    (&[HEADER, BGNLIB, LIBNAME, BGNSTR, STRNAME], 40, BGNSTR),
+    (&[BGNLIB, HEADER, LIBNAME, UNITS_TYPE], 0, BGNLIB),
+    (&[HEADER, LIBNAME, BGNLIB, UNITS_TYPE], 6, LIBNAME),
+    (&[HEADER, BGNLIB, UNITS_TYPE, LIBNAME], 34, UNITS_TYPE),
+    (&[HEADER, BGNLIB, LIBNAME, ENDLIB, UNITS_TYPE], 40, ENDLIB),
+    (&[REFLIBS, HEADER, BGNLIB, LIBNAME], 0, REFLIBS),
+    (&[HEADER, REFLIBS, BGNLIB, LIBNAME], 6, REFLIBS),
+    (&[HEADER, BGNLIB, REFLIBS, UNITS_TYPE], 40, UNITS_TYPE),
+    (&[HEADER, BGNLIB, LIBNAME, REFLIBS], 46, ENDLIB),
+];
+
+// What is answered where records of these types stand between the bytes of ONE_RECTANGLE before one place and those
+// from another one on.
+fn refusal_between(
+    alloc: Global,
+    front: usize,
+    codes: &[u8],
+    end: usize,
+) -> Result<Option<(u64, Cause)>, Fail>
+    requires front { front ≤ 170 }
+    requires end { end ≤ 170 }
+{
+    let records = records(alloc, codes)?;
+    let bytes = joined(
+        alloc,
+        &[&ONE_RECTANGLE[..front], &records, &ONE_RECTANGLE[end..]],
+    )?;
+    Ok(refusal(alloc, &bytes))
+}
+
+fn unexpected(front: u16, offset: u16, code: u8) -> Option<(u64, Cause)> {
+    Some((front as u64 + offset as u64, Cause::Unexpected { code }))
+}
+
+#[test]
+fn refuses_records_in_wrong_orders(rt: HostRuntime) -> Result<(), Fail> {
+    for (codes, offset, code) in WRONG_ELEMENTS {
+        let found = refusal_between(rt.alloc(), 98, codes, 158)?;
+        assert_eq!(rt; found, unexpected(98, *offset, *code));
+    }
+    for (codes, offset, code) in WRONG_STRUCTURES {
+        let found = refusal_between(rt.alloc(), 62, codes, 166)?;
+        assert_eq!(rt; found, unexpected(62, *offset, *code));
+    }
+    for (codes, offset, code) in WRONG_STREAMS {
+        let found = refusal_between(rt.alloc(), 0, codes, 166)?;
+        assert_eq!(rt; found, unexpected(0, *offset, *code));
     }
     Ok(())
 }

@@ -13,7 +13,7 @@ use std::hash::{Hash, Hasher};
 use std::marker::Model;
 
 /// A text of printable bytes, 32 to 126. Contracts see its bytes; equality, order and hash go by them.
-#[derive(Drop)]
+#[derive(Debug, Drop)]
 pub struct Text {
     bytes: List<u8>,
 }

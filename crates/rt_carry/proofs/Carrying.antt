@@ -7,7 +7,7 @@ use Rattle.rt_cells.specs.Line.{Within, gap_of}
 use Rattle.rt_cells.specs.Islands.{columns_between, rows_between, AreIslands}
 use Rattle.rt_cells.proofs.Times.{not_negative, times_sum, times_le}
 use Rattle.rt_cells.proofs.Islands.{times_gap_of, islands_keep_width, islands_keep_space}
-use Rattle.rt_tech.specs.Tech.{width_of, space_of, IsValidTech}
+use Rattle.rt_tech.specs.Tech.{width_of, space_of, IsMeasured}
 use Rattle.rt_rows.specs.declared.row.Var.{Var}
 use Rattle.rt_rows.specs.declared.row.Var.TheVariants.{L, R, B, T}
 use Rattle.rt_rows.specs.declared.name.Name.TheVariants.{Wide, Gap, Run}
@@ -71,7 +71,7 @@ module _ (job : Job) (at : Var → ℤ) (separate : AreSeparateStrips (strips_of
   drawn_wide across i strip = beyond_holds at (L i) (R i) (width_wanted job i) (across.meets (Wide i) strip)
 
   -- each strip is drawn as high as wanted
-  drawn_tall : IsValidTech job.target → MeetsAcross job at → MeetsUpwards job at at → (i : ℕ) → IsStrip (strips_of job) i → (at (B i) +ℤ width_wanted job i) ≤ℤ at (T i)
+  drawn_tall : IsMeasured job.target → MeetsAcross job at → MeetsUpwards job at at → (i : ℕ) → IsStrip (strips_of job) i → (at (B i) +ℤ width_wanted job i) ≤ℤ at (T i)
   drawn_tall valid across upwards i strip =
       let column = first_column (at (L i)) (width_wanted job i) (at (R i)) (width_positive job.target valid (mask_of (strips_of job) i)) (drawn_wide across i strip) in
       let whole : IsWholeChain job at i i = record {
@@ -137,7 +137,7 @@ module _ (job : Job) (at : Var → ℤ) (separate : AreSeparateStrips (strips_of
       ]
 
   -- the same on the grid, as rectangles
-  areas_apart : IsValidTech job.target → MeetsAcross job at → MeetsUpwards job at at → (m i j : ℕ) → AreOfOneMask (strips_of job) i j → mask_of (strips_of job) i ≡ m
+  areas_apart : IsMeasured job.target → MeetsAcross job at → MeetsUpwards job at at → (m i j : ℕ) → AreOfOneMask (strips_of job) i j → mask_of (strips_of job) i ≡ m
       → let grid = job.target.grid in let a = drawn_area grid at i in let b = drawn_area grid at j in
       (a ≡ b) ⊎ (((grid *ℤ space_of job.target m) ≤ℤ columns_between a b) ⊎ ((grid *ℤ space_of job.target m) ≤ℤ rows_between a b))
   areas_apart valid across upwards m i j both of_mask =
@@ -151,7 +151,7 @@ module _ (job : Job) (at : Var → ℤ) (separate : AreSeparateStrips (strips_of
       ]
 
   -- the drawn strips of a mask are islands
-  drawn_islands : IsValidTech job.target → MeetsAcross job at → MeetsUpwards job at at → (m : ℕ)
+  drawn_islands : IsMeasured job.target → MeetsAcross job at → MeetsUpwards job at at → (m : ℕ)
       → AreIslands (job.target.grid *ℤ width_of job.target m) (job.target.grid *ℤ space_of job.target m) (areas_of m (drawn job.target.grid at (strips_of job)))
   drawn_islands valid across upwards m =
       let grid = job.target.grid in

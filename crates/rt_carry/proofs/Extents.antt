@@ -1,7 +1,7 @@
 -- Positions that meet both templates lie in the extent, and a step in database units fits.
 use Rattle.std.proofs.Common.{◌≡◌, ℕ, ℤ, pos, ◌+ℤ◌, ◌*ℤ◌, ◌≤ℤ◌, List, get_or, w32, w64, to_z, of_z, FitsSigned, ap, ◌∙◌, arith}
 use Rattle.std.proofs.lemmas.Int.{ints, to_z-of_z}
-use Rattle.rt_tech.specs.Tech.{IsValidTech}
+use Rattle.rt_tech.specs.Tech.{IsMeasured}
 use Rattle.rt_rows.specs.declared.row.Var.{Var}
 use Rattle.rt_rows.specs.declared.row.Var.TheVariants.{L, R, B, T, Width, Height}
 use Rattle.rt_rows.specs.declared.name.Name.TheVariants.{Lo, Hi, Top, Wide, Tall}
@@ -39,7 +39,7 @@ high_side : (low w high extent : ℤ) → pos 0 ≤ℤ low → (low +ℤ w) ≤�
 high_side low w high extent a b c d e = record { low = high_low low w high a b c; high = high_high high extent extent_limit d e }
 
 -- positions that meet both templates lie in the extent
-pub all_in_extent : (job : Job) (at : Var → ℤ) → IsValidTech job.target → MeetsAcross job at → MeetsUpwards job at at → AreAllInExtent job at
+pub all_in_extent : (job : Job) (at : Var → ℤ) → IsMeasured job.target → MeetsAcross job at → MeetsUpwards job at at → AreAllInExtent job at
 all_in_extent job at valid across upwards = record {
   strips = λ i strip.
       let low = at_least_holds at (L i) (pos 0) (across.meets (Lo i) strip) in

@@ -1,6 +1,6 @@
 -- What is promised of drawings.
 use Rattle.std.specs.Prelude.{ℤ}
-use Rattle.rt_tech.specs.Tech.{IsValidTech}
+use Rattle.rt_tech.specs.Tech.{IsMeasured}
 use Rattle.rt_rows.specs.declared.row.Var.{Var}
 use Rattle.rt_template.specs.declared.job.Job.{Job}
 use Rattle.rt_template.specs.Across.{strips_of, MeetsAcross}
@@ -11,5 +11,5 @@ use Rattle.rt_template.specs.Separate.{AreSeparateStrips}
 
 -- positions that meet both templates of separate strips draw a layout that breaks no target rule, in database units
 abbrev pub DrawingsBreakNoRule : Type 0
-DrawingsBreakNoRule = (job : Job) (at : Var → ℤ) → AreSeparateStrips (strips_of job) → IsValidTech job.source → IsValidTech job.target
+DrawingsBreakNoRule = (job : Job) (at : Var → ℤ) → AreSeparateStrips (strips_of job) → IsMeasured job.source → IsMeasured job.target
     → MeetsAcross job at → MeetsUpwards job at at → BreaksNoRuleOnGrid job.target (drawn job.target.grid at (strips_of job))

@@ -1,5 +1,5 @@
 ghost use Rattle.std.specs.Prelude.{◌≡◌, ◌<◌, ◌*ℤ◌, map, length, IfOk};
-ghost use Rattle.rt_tech.specs.Tech.{IsGrid, IsValidTech};
+ghost use Rattle.rt_tech.specs.Tech.{IsGrid, IsMeasured};
 ghost use Rattle.rt_rows.specs.Places.{places};
 ghost use Rattle.rt_template.specs.Across.{strips_of, MeetsAcross};
 ghost use Rattle.rt_template.specs.Upwards.{MeetsUpwards};
@@ -26,7 +26,7 @@ pub fn draw(
 ) -> Result<Flat, OutOfMemory>
     requires entries { HaveOneEntryEach job.now at.now }
     requires masks { AreOnMasksOf job.now.target (strips_of job.now) }
-    requires target { IsValidTech job.now.target }
+    requires target { IsMeasured job.now.target }
     requires across { MeetsAcross job.now (places at.now) }
     requires upwards { MeetsUpwards job.now (places at.now) (places at.now) }
     ensures { IfOk result (λ flat. IsDrawingOf job.now (places at.now) library.now cell.now flat) }

@@ -1,5 +1,5 @@
 ghost use Rattle.std.specs.Prelude.{◌≡◌, [], ◌∷◌, pos, ◌≤ℤ◌, ◌<ℤ◌, length, None, IfOk};
-ghost use Rattle.rt_tech.specs.Tech.{IsLayer, IsValidTech, mask_count, width_of};
+ghost use Rattle.rt_tech.specs.Tech.{IsLayer, IsMeasured, mask_count, width_of};
 ghost use Rattle.rt_template.specs.Strips.{mask_of, left_of, right_of, bottom_of, top_of};
 ghost use Rattle.rt_template.specs.Across.{strips_of};
 
@@ -7,7 +7,7 @@ use crate::draw;
 use gds_stream::{Flat, Shape};
 use rt_base::{List, OutOfMemory, Rect, Text};
 use rt_rows::Positions;
-use rt_tech::{Mask, Tech};
+use rt_tech::{Mask, Role, Tech};
 use rt_template::{Job, Strip};
 use std::alloc::Global;
 use std::test::Fail;
@@ -25,27 +25,37 @@ fn letter(alloc: Global) -> Result<Text, OutOfMemory>
 // A table of one mask on a layer, on a grid of 5.
 fn table(alloc: Global, layer: i16) -> Result<Tech, OutOfMemory>
     requires { IsLayer layer }
-    ensures valid { IfOk result IsValidTech }
+    ensures valid { IfOk result IsMeasured }
     ensures masks { IfOk result (λ tech. mask_count tech ≡ 1) }
     ensures width { IfOk result (λ tech. width_of tech 0 ≡ pos 3) }
 {
     let mask = Mask {
         name: letter(alloc)?,
+        role: Role::Metal,
         layer,
         datatype: 20,
+        note: None,
         width: 3,
         space: 2,
+        upper: 0,
+        lowers: List::new(alloc),
     };
     Ok(Tech {
         grid: 5,
         units: [2; 16],
         masks: List::of(vec![in alloc; mask]?),
+        encloses: List::new(alloc),
+        gates: None,
+        aparts: List::new(alloc),
+        kinds: List::new(alloc),
+        ignored: List::new(alloc),
+        drop_unlisted: false,
     })
 }
 
 // A job of one strip.
 fn job(alloc: Global) -> Result<Job, OutOfMemory>
-    ensures target { IfOk result (λ job. IsValidTech job.target) }
+    ensures target { IfOk result (λ job. IsMeasured job.target) }
     ensures masks { IfOk result (λ job. mask_count job.target ≡ 1) }
     ensures width { IfOk result (λ job. width_of job.target 0 ≡ pos 3) }
     ensures strips { IfOk result (λ job. length job.strips ≡ 1) }

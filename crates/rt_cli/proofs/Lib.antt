@@ -1,3 +1,4 @@
 pub mod Seven
 pub mod Fetches
 pub mod Refused
+pub mod Ending

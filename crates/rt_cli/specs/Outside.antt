@@ -1,16 +1,20 @@
 -- What a run sees of the outside, and the files that it fetches.
-use Rattle.std.specs.Prelude.{◌≡◌, ℕ, ◌<◌, ◌≤◌, ◌⊎◌, List, [], ◌∷◌, ◌++◌, length, All, Option, Some, None, IsSomeAnd}
+use Rattle.std.specs.Prelude.{◌≡◌, ℕ, ◌≤◌, List, [], ◌∷◌, ◌++◌, length, All, Option, IfSome, IsSomeAnd}
 use Rattle.rt_desk.specs.declared.outside.DeskError.{DeskError}
 use Rattle.rt_desk.specs.declared.outside.DeskError.TheVariants.{Failed, Missing, TooLong, OutOfMemory}
-use Rattle.rt_desk.specs.Desk.{Files, Rose, IsFetched}
+use Rattle.rt_desk.specs.Desk.{Files, Rose, IsFetched, IsAbsent, IsOverLong}
 use Rattle.rt_cli.specs.Words.{Names}
 
--- what a desk shows at one moment: its files and what was said, where it tells them, and its counts of faults
-pub record Seen : Type 0 where
+-- the files of a desk, where it tells them, and how many of its fetches and stores were faults
+pub record Kept : Type 0 where
   pub files : Option Files
-  pub said : Option (List ℕ)
   pub fetches : ℕ
   pub stores : ℕ
+
+-- what a desk shows at one moment: that, what was said, where it tells it, and how many says were faults
+pub record Seen : Type 0 where
+  pub kept : Kept
+  pub said : Option (List ℕ)
   pub says : ℕ
 
 -- the most bytes of a file that is fetched
@@ -39,36 +43,30 @@ fetched_names names = names.source ∷ names.stable ∷ names.ttable ∷ names.s
 abbrev pub IsReadable : Files → List ℕ → Type 0
 IsReadable files name = IsSomeAnd (files name) (λ bytes. length bytes ≤ file_limit)
 
--- the file isn't there, or is too long
-abbrev pub IsUnreadable : Files → List ℕ → Type 0
-IsUnreadable files name = (files name ≡ None) ⊎ IsSomeAnd (files name) (λ bytes. file_limit < length bytes)
+-- where the desk tells its files, those of the names are there, and not too long
+abbrev pub AreReadable : Option Files → List (List ℕ) → Type 0
+AreReadable files names = IfSome files (λ told. All (IsReadable told) names)
 
--- the first of the files that can't be read is this one
-pub record IsFirstUnreadable (files : Files) (names : List (List ℕ)) (name : List ℕ) : Type 0 where
+-- why a file wasn't fetched: its fetch was a fault; or the desk tells its files, and it isn't there, or is too long, which
+-- is a fault where the desk doesn't tell them; or there was no memory
+abbrev pub FetchFails : Option Files → ℕ → ℕ → List ℕ → DeskError → Type 0
+FetchFails files old new name Failed = Rose old new
+FetchFails files old new name Missing = IsAbsent files name
+FetchFails files old new name TooLong = IsOverLong files old new name file_limit
+FetchFails files old new name OutOfMemory = Unit {0}
+
+-- the file of the name is the first of those that wasn't fetched, and the error is why
+pub record IsNotFetched (files : Option Files) (old new : ℕ) (names : List (List ℕ)) (name : List ℕ) (error : DeskError) : Type 0 where
   pub before : List (List ℕ)
   pub after : List (List ℕ)
   pub in_order : names ≡ before ++ name ∷ after
-  pub readable : All (IsReadable files) before
-  pub unreadable : IsUnreadable files name
+  pub readable : AreReadable files before
+  pub fails : FetchFails files old new name error
 
--- the desk tells its files, and one of those named can't be read
-pub record SomeUnreadable (files : Option Files) (names : List (List ℕ)) : Type 0 where
-  pub told : Files
-  pub is_told : files ≡ Some told
-  pub name : List ℕ
-  pub first : IsFirstUnreadable told names name
-
--- why the files weren't fetched: a fetch was a fault, or the desk tells its files and one of them can't be read
-abbrev pub CannotFetch : Option Files → ℕ → ℕ → List (List ℕ) → Type 0
-CannotFetch files old new names = Rose old new ⊎ SomeUnreadable files names
-
--- what an error of the fetches says: want of memory says nothing
-abbrev pub FetchFails : Option Files → ℕ → ℕ → List (List ℕ) → DeskError → Type 0
-FetchFails files old new names Failed = CannotFetch files old new names
-FetchFails files old new names Missing = CannotFetch files old new names
-FetchFails files old new names TooLong = CannotFetch files old new names
-FetchFails files old new names OutOfMemory = Unit {0}
+-- what a desk keeps, from its parts
+abbrev pub kept : Option Files → ℕ → ℕ → Kept
+kept files fetches stores = record { files = files; fetches = fetches; stores = stores }
 
 -- what a desk shows, from its parts
 abbrev pub seen : Option Files → Option (List ℕ) → ℕ → ℕ → ℕ → Seen
-seen files said fetches stores says = record { files = files; said = said; fetches = fetches; stores = stores; says = says }
+seen files said fetches stores says = record { kept = kept files fetches stores; said = said; says = says }

@@ -1,42 +1,65 @@
 ghost use Rattle.std.specs.Prelude.{◌≡◌};
+ghost use Rattle.rt_cli.specs.Answers.{number_of_refusal, number_of_unfetched};
+
+use crate::fetching::Unfetched;
+use rt_desk::DeskError;
+use rt_retarget::Fault;
 
 /// How a run ends.
-#[derive(Clone, Copy, Debug, PartialEq, Eq, Drop)]
-pub enum Answer {
+#[derive(Debug, PartialEq, Eq, Drop)]
+pub enum Answer<'a> {
     /// The cell was moved, and OUT holds it.
     Done,
     /// The words are of no form.
     Usage,
-    /// The source isn't a stream of the format.
-    BadStream,
-    /// The source breaks a rule of its own table.
-    SourceRule,
+    /// The files are refused.
+    Refused(Fault),
     /// A file wasn't fetched.
-    NotFetched,
+    NotFetched(Unfetched<'a>),
     /// OUT wasn't stored.
     NotStored,
     /// There was no memory.
     OutOfMemory,
-    /// The files ask for what isn't built yet.
-    NotBuilt,
 }
 
-impl Answer {
+impl<'a> Answer<'a> {
     ghost use Rattle.rt_cli.specs.Answers.{number_of};
 
     /// The exit status of the answer.
-    pub fn number(self) -> u8
-        ensures { result ≡ number_of self }
+    pub fn number(&self) -> u8
+        ensures { result ≡ number_of self.now }
     {
         match self {
             Answer::Done => 0,
             Answer::Usage => 2,
-            Answer::BadStream => 3,
-            Answer::SourceRule => 7,
-            Answer::NotFetched => 11,
+            Answer::Refused(fault) => refusal_number(fault),
+            Answer::NotFetched(unfetched) => unfetched_number(&unfetched.error),
             Answer::NotStored => 12,
             Answer::OutOfMemory => 13,
-            Answer::NotBuilt => 30,
         }
+    }
+}
+
+// The exit status of a refusal.
+fn refusal_number(fault: &Fault) -> u8
+    ensures { result ≡ number_of_refusal fault.now }
+{
+    match fault {
+        Fault::BadStream { .. } => 3,
+        Fault::TableToml { .. } | Fault::BadTable { .. } | Fault::TablesDiffer { .. } => 4,
+        Fault::SizesToml | Fault::BadSizes { .. } => 5,
+        Fault::SourceRule { .. } => 7,
+        Fault::OutOfMemory => 13,
+        Fault::NotBuilt => 30,
+    }
+}
+
+// The exit status where a file wasn't fetched, by the error of the fetch.
+fn unfetched_number(error: &DeskError) -> u8
+    ensures { result ≡ number_of_unfetched error.now }
+{
+    match error {
+        DeskError::Failed | DeskError::Missing | DeskError::TooLong => 11,
+        DeskError::OutOfMemory => 13,
     }
 }

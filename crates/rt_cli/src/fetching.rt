@@ -1,5 +1,6 @@
 ghost use Rattle.std.specs.Prelude.{◌≡◌, ◌≤◌, IfOk, IfErr};
-ghost use Rattle.rt_cli.specs.Outside.{AreFetched, FetchFails, fetched_names};
+ghost use Rattle.rt_desk.specs.Desk.{IsFetched};
+ghost use Rattle.rt_cli.specs.Outside.{AreFetched, IsNotFetched, FetchFails, fetched_names, file_limit};
 ghost use Rattle.rt_cli.specs.Given.{names_in, contents_in};
 
 use crate::words::Retarget;
@@ -22,28 +23,54 @@ pub struct Inputs {
     pub sizes: Vec<u8>,
 }
 
-/// Fetches the four files in order.
-pub fn fetch_all<D: Desk>(
+/// A file that wasn't fetched.
+#[derive(Clone, Copy, Debug, PartialEq, Eq, Drop)]
+pub struct Unfetched<'a> {
+    /// Why: the desk failed, the file isn't there, it is too long, or there was no memory.
+    pub error: DeskError,
+    /// The word that names it.
+    pub name: &'a str,
+}
+
+/// Fetches the four files in order, or tells the first that wasn't fetched, and why.
+pub fn fetch_all<'a, D: Desk>(
     alloc: Global,
-    names: &Retarget<'_>,
+    names: &Retarget<'a>,
     desk: &mut D,
-) -> Result<Inputs, DeskError>
+) -> Result<Inputs, Unfetched<'a>>
     ensures fetched { IfOk result (λ files. AreFetched (D.files desk.old) (names_in names.now) (contents_in files)) }
-    ensures refused { IfErr result (FetchFails (D.files desk.old) (D.fetch_faults desk.old) (D.fetch_faults desk.new) (fetched_names (names_in names.now))) }
+    ensures refused { IfErr result (λ u. IsNotFetched (D.files desk.old) (D.fetch_faults desk.old) (D.fetch_faults desk.new) (fetched_names (names_in names.now)) u.name.now u.error) }
     ensures files_stay { D.files desk.new ≡ D.files desk.old }
     ensures said_stay { D.said desk.new ≡ D.said desk.old }
     ensures count { D.fetch_faults desk.old ≤ D.fetch_faults desk.new }
     ensures store_count { D.store_faults desk.new ≡ D.store_faults desk.old }
     ensures say_count { D.say_faults desk.new ≡ D.say_faults desk.old }
 {
-    let source = desk.fetch(alloc, names.source, FILE_LIMIT)?;
-    let stable = desk.fetch(alloc, names.stable, FILE_LIMIT)?;
-    let ttable = desk.fetch(alloc, names.ttable, FILE_LIMIT)?;
-    let sizes = desk.fetch(alloc, names.sizes, FILE_LIMIT)?;
+    let source = fetch(alloc, names.source, desk)?;
+    let stable = fetch(alloc, names.stable, desk)?;
+    let ttable = fetch(alloc, names.ttable, desk)?;
+    let sizes = fetch(alloc, names.sizes, desk)?;
     Ok(Inputs {
         source,
         stable,
         ttable,
         sizes,
     })
+}
+
+// Fetches a file.
+fn fetch<'a, D: Desk>(alloc: Global, name: &'a str, desk: &mut D) -> Result<Vec<u8>, Unfetched<'a>>
+    ensures fetched { IfOk result (λ bytes. IsFetched (D.files desk.old) name.now file_limit bytes.items) }
+    ensures named { IfErr result (λ u. u.name.now ≡ name.now) }
+    ensures refused { IfErr result (λ u. FetchFails (D.files desk.old) (D.fetch_faults desk.old) (D.fetch_faults desk.new) name.now u.error) }
+    ensures files_stay { D.files desk.new ≡ D.files desk.old }
+    ensures said_stay { D.said desk.new ≡ D.said desk.old }
+    ensures count { D.fetch_faults desk.old ≤ D.fetch_faults desk.new }
+    ensures store_count { D.store_faults desk.new ≡ D.store_faults desk.old }
+    ensures say_count { D.say_faults desk.new ≡ D.say_faults desk.old }
+{
+    match desk.fetch(alloc, name, FILE_LIMIT) {
+        Ok(bytes) => Ok(bytes),
+        Err(error) => Err(Unfetched { error, name }),
+    }
 }

@@ -4,6 +4,7 @@
 mod answer;
 mod fetching;
 mod running;
+mod saying;
 #[cfg(test)]
 mod tests;
 mod words;

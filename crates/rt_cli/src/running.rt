@@ -1,37 +1,66 @@
 ghost use Rattle.std.specs.Prelude.{◌≡◌};
 ghost use Rattle.rt_cli.specs.Words.{bytes_of};
-ghost use Rattle.rt_cli.specs.Outside.{seen};
+ghost use Rattle.rt_cli.specs.Outside.{kept, seen};
 ghost use Rattle.rt_cli.specs.Given.{names_in, contents_in};
-ghost use Rattle.rt_cli.specs.Answers.{Says, SaysOfNames, SaysOfContents, StoreSays, Answers, refusal_answer};
+ghost use Rattle.rt_cli.specs.Answers.{Says, SaysOfNames, SaysOfContents, StoreSays, Answers, Ends, line_of, number_of};
 
 use crate::answer::Answer;
 use crate::fetching::{Inputs, fetch_all};
+use crate::saying::{has_line, say_answer};
 use crate::words::{Retarget, retarget_words};
 use rt_base::List;
 use rt_desk::{Desk, DeskError};
-use rt_retarget::{Fault, Outcome, retarget};
+use rt_retarget::{Outcome, retarget};
 use std::alloc::Global;
 
 /// The exit status of the program.
 #[derive(Clone, Copy, Debug, PartialEq, Eq, Drop)]
 pub struct Status(pub u8);
 
+// The status where there was no memory.
+const NO_MEMORY: u8 = 13;
+
 /// Runs the program on the words behind its name.
 ///
-/// The one form is `retarget SOURCE STABLE TTABLE SIZES OUT CERT`: it fetches the first four files, and stores
-/// the moved cell as OUT. The statuses are 0 where OUT is stored; 2 where the words are of no form; 3 where the source
-/// isn't a stream of the format; 30 where the files ask for what isn't built yet; 7 where the source breaks a rule of its own table; 11 where a file wasn't
-/// fetched; 12 where OUT wasn't stored; and 13 where there was no memory. Nothing is said yet.
+/// The one form is `retarget SOURCE STABLE TTABLE SIZES OUT CERT`: it fetches the first four files, and stores the moved
+/// cell as OUT. The statuses are 0 where OUT is stored; 2 where the words are of no form; 3 where the source isn't a stream
+/// of the format; 4 where a table isn't valid, or the two aren't of one form; 5 where the sizes file isn't valid; 7 where
+/// the source breaks a rule of its own table; 11 where a file wasn't fetched; 12 where OUT wasn't stored; 13 where there
+/// was no memory; and 30 where the files ask for what isn't built yet.
+///
+/// For each status but 0, 12 and 13 it says one line, which names the place and the cause. Where a say fails no more of the
+/// line is said, and the status stands; where there is no memory for it, the status is 13.
 pub fn run<D: Desk>(alloc: Global, words: &[String], desk: &mut D) -> Status
     ensures { Answers (bytes_of words.now) (seen (D.files desk.old) (D.said desk.old) (D.fetch_faults desk.old) (D.store_faults desk.old) (D.say_faults desk.old)) (seen (D.files desk.new) (D.said desk.new) (D.fetch_faults desk.new) (D.store_faults desk.new) (D.say_faults desk.new)) result.0 }
 {
-    Status(answer_of(alloc, words, desk).number())
+    let answer = answer_of(alloc, words, desk);
+    say_status(&answer, desk)
+}
+
+// Says the line of an answer, and tells the status. A say is never answered that a file is missing or too long.
+#[tactic(auto, using(crate::proofs::Ending::nothing_ends, crate::proofs::Ending::said_ends, crate::proofs::Ending::failed_ends, crate::proofs::Ending::no_memory_ends))]
+fn say_status<D: Desk>(answer: &Answer<'_>, desk: &mut D) -> Status
+    ensures ends { Ends (D.said desk.old) (D.said desk.new) (D.say_faults desk.old) (D.say_faults desk.new) (line_of answer.now) (number_of answer.now) result.0 }
+    ensures files_stay { D.files desk.new ≡ D.files desk.old }
+    ensures fetch_count { D.fetch_faults desk.new ≡ D.fetch_faults desk.old }
+    ensures store_count { D.store_faults desk.new ≡ D.store_faults desk.old }
+{
+    if !has_line(answer) {
+        return Status(answer.number());
+    }
+    match say_answer(answer, desk) {
+        Ok(()) => Status(answer.number()),
+        Err(DeskError::Failed) => Status(answer.number()),
+        Err(DeskError::OutOfMemory) => Status(NO_MEMORY),
+        Err(DeskError::Missing | DeskError::TooLong) => unreachable!(),
+    }
 }
 
 // The answer of a run.
-fn answer_of<D: Desk>(alloc: Global, words: &[String], desk: &mut D) -> Answer
-    ensures says { Says (bytes_of words.now) (seen (D.files desk.old) (D.said desk.old) (D.fetch_faults desk.old) (D.store_faults desk.old) (D.say_faults desk.old)) (seen (D.files desk.new) (D.said desk.new) (D.fetch_faults desk.new) (D.store_faults desk.new) (D.say_faults desk.new)) result }
+fn answer_of<'a, D: Desk>(alloc: Global, words: &'a [String], desk: &mut D) -> Answer<'a>
+    ensures says { Says (bytes_of words.now) (kept (D.files desk.old) (D.fetch_faults desk.old) (D.store_faults desk.old)) (kept (D.files desk.new) (D.fetch_faults desk.new) (D.store_faults desk.new)) result }
     ensures said { D.said desk.new ≡ D.said desk.old }
+    ensures say_count { D.say_faults desk.new ≡ D.say_faults desk.old }
 {
     match retarget_words(words) {
         Some(names) => retarget_files(alloc, &names, desk),
@@ -40,21 +69,22 @@ fn answer_of<D: Desk>(alloc: Global, words: &[String], desk: &mut D) -> Answer
 }
 
 // The answer where the words name the files.
-fn retarget_files<D: Desk>(alloc: Global, names: &Retarget<'_>, desk: &mut D) -> Answer
-    ensures says { SaysOfNames (names_in names.now) (seen (D.files desk.old) (D.said desk.old) (D.fetch_faults desk.old) (D.store_faults desk.old) (D.say_faults desk.old)) (seen (D.files desk.new) (D.said desk.new) (D.fetch_faults desk.new) (D.store_faults desk.new) (D.say_faults desk.new)) result }
+fn retarget_files<'a, D: Desk>(alloc: Global, names: &Retarget<'a>, desk: &mut D) -> Answer<'a>
+    ensures says { SaysOfNames (names_in names.now) (kept (D.files desk.old) (D.fetch_faults desk.old) (D.store_faults desk.old)) (kept (D.files desk.new) (D.fetch_faults desk.new) (D.store_faults desk.new)) result }
     ensures said { D.said desk.new ≡ D.said desk.old }
+    ensures say_count { D.say_faults desk.new ≡ D.say_faults desk.old }
 {
     match fetch_all(alloc, names, desk) {
         Ok(files) => move_cell(alloc, &files, names.out, desk),
-        Err(DeskError::OutOfMemory) => Answer::OutOfMemory,
-        Err(_) => Answer::NotFetched,
+        Err(unfetched) => Answer::NotFetched(unfetched),
     }
 }
 
 // The answer where the files were fetched: it moves their cell and stores it as `out`.
-fn move_cell<D: Desk>(alloc: Global, files: &Inputs, out: &str, desk: &mut D) -> Answer
+fn move_cell<'a, D: Desk>(alloc: Global, files: &Inputs, out: &str, desk: &mut D) -> Answer<'a>
     ensures says { SaysOfContents (contents_in files.now) out.now (D.files desk.old) (D.files desk.new) (D.store_faults desk.old) (D.store_faults desk.new) result }
     ensures said { D.said desk.new ≡ D.said desk.old }
+    ensures say_count { D.say_faults desk.new ≡ D.say_faults desk.old }
 {
     let outcome = match retarget(
         alloc,
@@ -64,7 +94,7 @@ fn move_cell<D: Desk>(alloc: Global, files: &Inputs, out: &str, desk: &mut D) ->
         &files.sizes,
     ) {
         Ok(outcome) => outcome,
-        Err(fault) => return refusal(&fault),
+        Err(fault) => return Answer::Refused(fault),
     };
     let Outcome::Done {
         gds,
@@ -74,22 +104,11 @@ fn move_cell<D: Desk>(alloc: Global, files: &Inputs, out: &str, desk: &mut D) ->
     store_moved(&gds, out, desk)
 }
 
-// The answer of a refusal.
-fn refusal(fault: &Fault) -> Answer
-    ensures { result ≡ refusal_answer fault.now }
-{
-    match fault {
-        Fault::NotBuilt => Answer::NotBuilt,
-        Fault::BadStream { .. } => Answer::BadStream,
-        Fault::SourceRule { .. } => Answer::SourceRule,
-        Fault::OutOfMemory => Answer::OutOfMemory,
-    }
-}
-
 // The answer where the cell was moved: it stores the bytes as `out`.
-fn store_moved<D: Desk>(gds: &List<u8>, out: &str, desk: &mut D) -> Answer
+fn store_moved<'a, D: Desk>(gds: &List<u8>, out: &str, desk: &mut D) -> Answer<'a>
     ensures stored { StoreSays (D.files desk.old) (D.files desk.new) (D.store_faults desk.old) (D.store_faults desk.new) out.now gds.now result }
     ensures said { D.said desk.new ≡ D.said desk.old }
+    ensures say_count { D.say_faults desk.new ≡ D.say_faults desk.old }
 {
     match desk.store(out, gds.as_slice()) {
         Ok(()) => Answer::Done,

@@ -409,12 +409,33 @@ const WIDE: &str =
     "version = 1\ngrid = 1\nunits = \"41100000000000004110000000000000\"\nmask = [{name = \"m\", role = \"metal\", layer = 1, datatype = 0, width = 6, space = 4}]\n";
 
 const CUT: &str =
-    "version = 1\ngrid = 1\nunits = \"41100000000000004110000000000000\"\nmask = [{name = \"m\", role = \"cut\", layer = 1, datatype = 0, width = 3, space = 3}]\n";
+    "version = 1\ngrid = 1\nunits = \"41100000000000004110000000000000\"\nmask = [{name = \"m\", role = \"cut\", layer = 1, datatype = 0, size = 3, space = 3, upper = \"u\", lower = [\"l\"]}, {name = \"u\", role = \"metal\", layer = 2, datatype = 0, width = 3, space = 3}, {name = \"l\", role = \"metal\", layer = 3, datatype = 0, width = 3, space = 3}]\nenclose = [{cut = \"m\", mask = \"u\", number = 1}, {cut = \"m\", mask = \"l\", number = 1}]\n";
+
+const GROUND: &str =
+    "version = 1\ngrid = 1\nunits = \"41100000000000004110000000000000\"\nmask = [{name = \"m\", role = \"background\", layer = 1, datatype = 0, width = 3, space = 3}]\n";
 
 const OFF_GRID: &str =
     "version = 1\ngrid = 5\nunits = \"41100000000000004110000000000000\"\nmask = [{name = \"m\", role = \"metal\", layer = 1, datatype = 0, width = 31, space = 20}]\n";
 
+const NO_WIDTH: &str =
+    "version = 1\ngrid = 1\nunits = \"41100000000000004110000000000000\"\nmask = [{name = \"m\", role = \"metal\", layer = 1, datatype = 0, width = 0, space = 3}]\n";
+
+const COLOURED: &str =
+    "version = 1\ngrid = 1\nunits = \"41100000000000004110000000000000\"\ncolour = 1\nmask = [{name = \"m\", role = \"metal\", layer = 1, datatype = 0, width = 3, space = 3}]\n";
+
+const OTHER_MASK: &str =
+    "version = 1\ngrid = 1\nunits = \"41100000000000004110000000000000\"\nmask = [{name = \"n\", role = \"metal\", layer = 1, datatype = 0, width = 6, space = 4}]\n";
+
+const NO_TABLE: &str = "version 1\n";
+
 const OTHER_CELL: &str = "version = 1\ncell = \"TOP2\"\nmirror = \"none\"\n";
+
+const NO_AXIS: &str = "version = 1\ncell = \"TOP\"\nmirror = \"axis\"\n";
+
+const AXIS: &str = "version = 1\ncell = \"TOP\"\nmirror = \"axis\"\naxis = 30\n";
+
+const STRAY: &str =
+    "version = 1\ncell = \"TOP\"\nmirror = \"none\"\ndevice = [{index = 0, length = 4, width = 8}]\n";
 
 // Files that are refused.
 #[derive(Drop)]
@@ -426,9 +447,11 @@ struct Refused {
     rectangles: &'static [Rectangle],
     more: &'static [u8],
     status: u8,
+    // What the line begins with, and ends with.
+    says: (&'static str, &'static str),
 }
 
-const REFUSED: [Refused; 11] = [
+const REFUSED: [Refused; 24] = [
     Refused {
         shows: "a shared side",
         stable: NARROW,
@@ -437,6 +460,7 @@ const REFUSED: [Refused; 11] = [
         rectangles: &[(1, 0, 0, 4, 4), (1, 4, 0, 8, 4)],
         more: &[],
         status: 30,
+        says: ("not built\n", ""),
     },
     Refused {
         shows: "a corner contact",
@@ -446,24 +470,40 @@ const REFUSED: [Refused; 11] = [
         rectangles: &[(1, 0, 0, 4, 4), (1, 4, 4, 8, 8)],
         more: &[],
         status: 7,
+        says: (
+            "source rule: space m at 3 3 and 4 4: found 0, needed 3\n",
+            "",
+        ),
     },
     Refused {
-        shows: "a cut in the source's table",
+        shows: "a cut in the source's table alone",
         stable: CUT,
         ttable: WIDE,
         sizes: SIZES,
         rectangles: &[(1, 10, 0, 20, 4)],
         more: &[],
-        status: 30,
+        status: 4,
+        says: ("tables differ: mask.0.role\n", ""),
     },
     Refused {
-        shows: "a cut in the target's table",
+        shows: "a cut in the target's table alone",
         stable: NARROW,
         ttable: CUT,
         sizes: SIZES,
         rectangles: &[(1, 10, 0, 20, 4)],
         more: &[],
+        status: 4,
+        says: ("tables differ: mask.0.role\n", ""),
+    },
+    Refused {
+        shows: "a background in both tables",
+        stable: GROUND,
+        ttable: GROUND,
+        sizes: SIZES,
+        rectangles: &[(1, 10, 0, 20, 4)],
+        more: &[],
         status: 30,
+        says: ("not built\n", ""),
     },
     Refused {
         shows: "a rectangle that is too narrow",
@@ -473,6 +513,7 @@ const REFUSED: [Refused; 11] = [
         rectangles: &[(1, 0, 0, 2, 8)],
         more: &[],
         status: 7,
+        says: ("source rule: width m at 0 ", ": found 2, needed 3\n"),
     },
     Refused {
         shows: "two rectangles that are too near",
@@ -482,6 +523,10 @@ const REFUSED: [Refused; 11] = [
         rectangles: &[(1, 0, 0, 4, 4), (1, 6, 6, 10, 10)],
         more: &[],
         status: 7,
+        says: (
+            "source rule: space m at 3 3 and 6 6: found 2, needed 3\n",
+            "",
+        ),
     },
     Refused {
         shows: "a target's width off its grid",
@@ -490,7 +535,121 @@ const REFUSED: [Refused; 11] = [
         sizes: SIZES,
         rectangles: &[(1, 10, 0, 20, 4)],
         more: &[],
+        status: 4,
+        says: ("target table: mask.0.width: Range\n", ""),
+    },
+    Refused {
+        shows: "a source's width of 0",
+        stable: NO_WIDTH,
+        ttable: WIDE,
+        sizes: SIZES,
+        rectangles: &[(1, 10, 0, 20, 4)],
+        more: &[],
+        status: 4,
+        says: ("source table: mask.0.width: Range\n", ""),
+    },
+    Refused {
+        shows: "a key of no meaning",
+        stable: COLOURED,
+        ttable: WIDE,
+        sizes: SIZES,
+        rectangles: &[(1, 10, 0, 20, 4)],
+        more: &[],
+        status: 4,
+        says: ("source table: colour: Unknown\n", ""),
+    },
+    Refused {
+        shows: "a source's table that isn't TOML, before a target's",
+        stable: NO_TABLE,
+        ttable: NO_TABLE,
+        sizes: SIZES,
+        rectangles: &[(1, 10, 0, 20, 4)],
+        more: &[],
+        status: 4,
+        says: ("source table: not toml\n", ""),
+    },
+    Refused {
+        shows: "a target's table that isn't TOML, before a sizes file",
+        stable: NARROW,
+        ttable: NO_TABLE,
+        sizes: NO_TABLE,
+        rectangles: &[(1, 10, 0, 20, 4)],
+        more: &[],
+        status: 4,
+        says: ("target table: not toml\n", ""),
+    },
+    Refused {
+        shows: "a mask of another name",
+        stable: NARROW,
+        ttable: OTHER_MASK,
+        sizes: SIZES,
+        rectangles: &[(1, 10, 0, 20, 4)],
+        more: &[],
+        status: 4,
+        says: ("tables differ: mask.0.name\n", ""),
+    },
+    Refused {
+        shows: "tables that differ, before a sizes file",
+        stable: NARROW,
+        ttable: OTHER_MASK,
+        sizes: NO_TABLE,
+        rectangles: &[(1, 10, 0, 20, 4)],
+        more: &[],
+        status: 4,
+        says: ("tables differ: mask.0.name\n", ""),
+    },
+    Refused {
+        shows: "a sizes file that isn't TOML, before a mask that isn't metal",
+        stable: GROUND,
+        ttable: GROUND,
+        sizes: NO_TABLE,
+        rectangles: &[(1, 10, 0, 20, 4)],
+        more: &[],
+        status: 5,
+        says: ("sizes: not toml\n", ""),
+    },
+    Refused {
+        shows: "a mirror without its axis",
+        stable: NARROW,
+        ttable: WIDE,
+        sizes: NO_AXIS,
+        rectangles: &[(1, 10, 0, 20, 4)],
+        more: &[],
+        status: 5,
+        says: ("sizes: axis: Missing\n", ""),
+    },
+    Refused {
+        shows: "a mirror with its axis",
+        stable: NARROW,
+        ttable: WIDE,
+        sizes: AXIS,
+        rectangles: &[(1, 10, 0, 20, 4)],
+        more: &[],
         status: 30,
+        says: ("not built\n", ""),
+    },
+    Refused {
+        shows: "sizes of a device that isn't there",
+        stable: NARROW,
+        ttable: WIDE,
+        sizes: STRAY,
+        rectangles: &[(1, 10, 0, 20, 4)],
+        more: &[],
+        status: 5,
+        says: ("sizes: device.0.index: Range\n", ""),
+    },
+    Refused {
+        shows: "a device that isn't there, behind a rule that is broken",
+        stable: NARROW,
+        ttable: WIDE,
+        sizes: STRAY,
+        rectangles: &[(1, 0, 0, 4, 4), (1, 4, 4, 8, 8)],
+        more: &[],
+        status: 7,
+        says: (
+            "source rule: space m at 3 3 and 4 4: found 0, needed 3\n",
+            "",
+        ),
     },
     Refused {
         shows: "sizes of another cell",
@@ -500,6 +659,7 @@ const REFUSED: [Refused; 11] = [
         rectangles: &[(1, 10, 0, 20, 4)],
         more: &[],
         status: 30,
+        says: ("not built\n", ""),
     },
     Refused {
         shows: "a layer of no mask",
@@ -509,6 +669,7 @@ const REFUSED: [Refused; 11] = [
         rectangles: &[(2, 10, 0, 20, 4)],
         more: &[],
         status: 30,
+        says: ("not built\n", ""),
     },
     Refused {
         shows: "a byte that is no zero behind the stream",
@@ -518,17 +679,31 @@ const REFUSED: [Refused; 11] = [
         rectangles: &[(1, 10, 0, 20, 4)],
         more: &[0, 0, 1],
         status: 3,
+        says: ("bad stream at 172: Unexpected\n", ""),
     },
     Refused {
-        shows: "a bad stream under a table that isn't thin",
-        stable: CUT,
-        ttable: WIDE,
+        shows: "a bad stream under a mask that isn't metal",
+        stable: GROUND,
+        ttable: GROUND,
         sizes: SIZES,
         rectangles: &[(1, 10, 0, 20, 4)],
         more: &[1],
         status: 30,
+        says: ("not built\n", ""),
+    },
+    Refused {
+        shows: "a bad stream under a table that isn't valid",
+        stable: NO_WIDTH,
+        ttable: WIDE,
+        sizes: SIZES,
+        rectangles: &[(1, 10, 0, 20, 4)],
+        more: &[1],
+        status: 4,
+        says: ("source table: mask.0.width: Range\n", ""),
     },
 ];
+
+const USAGE_END: &str = "retarget or check SOURCE STABLE TTABLE SIZES OUT CERT, or make N OUT\n";
 
 // A word of a retargeting that is another one, and the status then.
 const OTHER_WORDS: [(usize, &str, u8); 20] = [
@@ -639,7 +814,14 @@ fn holds(desk: &MemoryDesk, given: &Given, out: Option<&[u8]>) -> bool {
         && desk.file("sizes.toml") == Some(given.sizes.as_bytes())
         && desk.file("out.gds") == out
         && desk.file("out.cert").is_none()
-        && desk.said().is_empty()
+}
+
+// Whether what was said begins and ends so; where the end is empty, whether it is the beginning alone.
+fn says(desk: &MemoryDesk, line: (&str, &str)) -> bool {
+    let said = desk.said();
+    said.starts_with(line.0.as_bytes())
+        && said.ends_with(line.1.as_bytes())
+        && (!line.1.is_empty() || said.len() == line.0.len())
 }
 
 #[test]
@@ -661,20 +843,24 @@ fn moves_one_rectangle_and_none(rt: HostRuntime) -> Result<(), Fail> {
     Ok(())
 }
 
-// Points of a polygon, and the status of a source with it alone.
-const POLYGONS: [([i32; 10], u8); 12] = [
-    ([10, 0, 20, 0, 20, 4, 10, 4, 10, 0], 0),
-    ([20, 0, 20, 4, 10, 4, 10, 0, 20, 0], 0),
-    ([20, 4, 10, 4, 10, 0, 20, 0, 20, 4], 0),
-    ([10, 4, 10, 0, 20, 0, 20, 4, 10, 4], 0),
-    ([10, 0, 10, 4, 20, 4, 20, 0, 10, 0], 0),
-    ([10, 4, 20, 4, 20, 0, 10, 0, 10, 4], 0),
-    ([20, 4, 20, 0, 10, 0, 10, 4, 20, 4], 0),
-    ([20, 0, 10, 0, 10, 4, 20, 4, 20, 0], 0),
-    ([10, 0, 20, 0, 20, 4, 10, 4, 10, 1], 3),
-    ([10, 0, 20, 0, 20, 4, 11, 4, 10, 0], 30),
-    ([10, 0, 20, 0, 20, 0, 10, 0, 10, 0], 30),
-    ([10, 0, 20, 4, 20, 0, 10, 4, 10, 0], 30),
+// Points of a polygon, the status of a source with it alone, and what is said.
+const POLYGONS: [([i32; 10], u8, &str); 12] = [
+    ([10, 0, 20, 0, 20, 4, 10, 4, 10, 0], 0, ""),
+    ([20, 0, 20, 4, 10, 4, 10, 0, 20, 0], 0, ""),
+    ([20, 4, 10, 4, 10, 0, 20, 0, 20, 4], 0, ""),
+    ([10, 4, 10, 0, 20, 0, 20, 4, 10, 4], 0, ""),
+    ([10, 0, 10, 4, 20, 4, 20, 0, 10, 0], 0, ""),
+    ([10, 4, 20, 4, 20, 0, 10, 0, 10, 4], 0, ""),
+    ([20, 4, 20, 0, 10, 0, 10, 4, 20, 4], 0, ""),
+    ([20, 0, 10, 0, 10, 4, 20, 4, 20, 0], 0, ""),
+    (
+        [10, 0, 20, 0, 20, 4, 10, 4, 10, 1],
+        3,
+        "bad stream at 114: WrongData\n",
+    ),
+    ([10, 0, 20, 0, 20, 4, 11, 4, 10, 0], 30, "not built\n"),
+    ([10, 0, 20, 0, 20, 0, 10, 0, 10, 0], 30, "not built\n"),
+    ([10, 0, 20, 4, 20, 0, 10, 4, 10, 0], 30, "not built\n"),
 ];
 
 // The stream of one polygon.
@@ -695,7 +881,7 @@ fn takes_a_rectangle_from_any_corner_and_no_other_polygon(rt: HostRuntime) -> Re
     let alloc = rt.alloc();
     let words = words_with(alloc, 0, "retarget")?;
     let mut given = one_rectangle(alloc)?;
-    for (points, status) in &POLYGONS {
+    for (points, status, line) in &POLYGONS {
         given.source = polygon(alloc, points)?;
         let mut desk = desk_with(alloc, &given)?;
         assert_eq!(rt;
@@ -709,20 +895,35 @@ fn takes_a_rectangle_from_any_corner_and_no_other_polygon(rt: HostRuntime) -> Re
             None
         };
         assert!(rt; holds(&desk, &given, out), "{points:?}");
+        assert!(rt; says(&desk, (line, "")), "{points:?}");
     }
     Ok(())
 }
+
+// The length that a source is cut to, and what is said then.
+const CUTS: [(usize, &str); 9] = [
+    (0, "bad stream at 0: NotClosed\n"),
+    (1, "bad stream at 0: Short\n"),
+    (6, "bad stream at 6: NotClosed\n"),
+    (40, "bad stream at 34: Short\n"),
+    (97, "bad stream at 90: Short\n"),
+    (98, "bad stream at 98: NotClosed\n"),
+    (130, "bad stream at 114: Short\n"),
+    (166, "bad stream at 166: NotClosed\n"),
+    (169, "bad stream at 166: Short\n"),
+];
 
 #[test]
 fn refuses_a_source_that_is_cut(rt: HostRuntime) -> Result<(), Fail> {
     let alloc = rt.alloc();
     let words = words_with(alloc, 0, "retarget")?;
     let mut given = one_rectangle(alloc)?;
-    for length in [0, 1, 6, 40, 97, 98, 165, 169] {
-        given.source = Vec::from_slice(alloc, &ONE_RECTANGLE[..length])?;
+    for (length, line) in &CUTS {
+        given.source = Vec::from_slice(alloc, &ONE_RECTANGLE[..*length])?;
         let mut desk = desk_with(alloc, &given)?;
         assert_eq!(rt; run(alloc, &words, &mut desk), Status(3), "{length}");
         assert!(rt; holds(&desk, &given, None), "{length}");
+        assert!(rt; says(&desk, (line, "")), "{length}");
     }
     Ok(())
 }
@@ -742,6 +943,7 @@ fn moves_small_cells(rt: HostRuntime) -> Result<(), Fail> {
         assert_eq!(rt; run(alloc, &words, &mut desk), Status(0), "{}", cell.shows);
         let moved = stream(alloc, cell.moved)?;
         assert!(rt; holds(&desk, &given, Some(&moved)), "{}", cell.shows);
+        assert!(rt; says(&desk, ("", "")), "{}", cell.shows);
     }
     Ok(())
 }
@@ -763,6 +965,7 @@ fn refuses_files(rt: HostRuntime) -> Result<(), Fail> {
         let status = run(alloc, &words, &mut desk);
         assert_eq!(rt; status, Status(refused.status), "{}", refused.shows);
         assert!(rt; holds(&desk, &given, None), "{}", refused.shows);
+        assert!(rt; says(&desk, refused.says), "{}", refused.shows);
     }
     Ok(())
 }
@@ -780,6 +983,12 @@ fn refuses_words(rt: HostRuntime) -> Result<(), Fail> {
             "{word} at {at}"
         );
         assert!(rt; holds(&desk, &given, None), "{word} at {at}");
+        let line = if status == 2 {
+            ("usage: ", USAGE_END)
+        } else {
+            ("missing: no.", "\n")
+        };
+        assert!(rt; says(&desk, line), "{word} at {at}");
     }
     Ok(())
 }
@@ -801,16 +1010,65 @@ fn refuses_too_few_or_too_many_words(rt: HostRuntime) -> Result<(), Fail> {
     Ok(())
 }
 
+// A call that fails, the status then, and what is said.
+const FAULTS: [(u64, u8, &str); 5] = [
+    (0, 11, "read fault: source.gds\n"),
+    (1, 11, "read fault: source.toml\n"),
+    (2, 11, "read fault: target.toml\n"),
+    (3, 11, "read fault: sizes.toml\n"),
+    (4, 12, ""),
+];
+
 #[test]
 fn answers_faults(rt: HostRuntime) -> Result<(), Fail> {
     let alloc = rt.alloc();
     let given = one_rectangle(alloc)?;
     let words = words_with(alloc, 0, "retarget")?;
-    for (nth, status) in [(0, 11), (1, 11), (2, 11), (3, 11), (4, 12)] {
+    for (nth, status, line) in &FAULTS {
         let mut desk = desk_with(alloc, &given)?;
-        desk.fail_at(nth)?;
-        assert_eq!(rt; run(alloc, &words, &mut desk), Status(status), "call {nth}");
+        desk.fail_at(*nth)?;
+        assert_eq!(rt;
+            run(alloc, &words, &mut desk),
+            Status(*status),
+            "call {nth}"
+        );
         assert!(rt; holds(&desk, &given, None), "call {nth}");
+        assert!(rt; says(&desk, (line, "")), "call {nth}");
     }
+    Ok(())
+}
+
+// A say that fails, of a run of which a file is missing, and what is said.
+const HALF_SAID: [(u64, &str); 4] = [
+    (4, ""),
+    (5, "missing: "),
+    (6, "missing: no.toml"),
+    (7, "missing: no.toml\n"),
+];
+
+#[test]
+fn says_no_more_after_a_fault(rt: HostRuntime) -> Result<(), Fail> {
+    let alloc = rt.alloc();
+    let given = one_rectangle(alloc)?;
+    let words = words_with(alloc, 4, "no.toml")?;
+    for (nth, line) in &HALF_SAID {
+        let mut desk = desk_with(alloc, &given)?;
+        desk.fail_at(*nth)?;
+        assert_eq!(rt; run(alloc, &words, &mut desk), Status(11), "call {nth}");
+        assert!(rt; holds(&desk, &given, None), "call {nth}");
+        assert!(rt; says(&desk, (line, "")), "call {nth}");
+    }
+    Ok(())
+}
+
+#[test]
+fn refuses_a_file_that_is_too_long(rt: HostRuntime) -> Result<(), Fail> {
+    let alloc = rt.alloc();
+    let words = words_with(alloc, 0, "retarget")?;
+    let mut given = one_rectangle(alloc)?;
+    given.source = vec![in alloc; 0; 16_777_217]?;
+    let mut desk = desk_with(alloc, &given)?;
+    assert_eq!(rt; run(alloc, &words, &mut desk), Status(11));
+    assert!(rt; says(&desk, ("too long: source.gds\n", "")));
     Ok(())
 }

@@ -8,7 +8,7 @@ use mathlib.Core.Logic.{inl, inr}
 use Rattle.rt_cells.specs.Rectangles.{Rectangle, IsNonempty, ShareCellOrSide}
 use Rattle.rt_tech.specs.declared.table.Mask.{Mask}
 use Rattle.rt_tech.specs.declared.table.Tech.{Tech}
-use Rattle.rt_tech.specs.Tech.{IsValidMask, AreApart, IsValidTech}
+use Rattle.rt_tech.specs.Tech.{IsMeasuredMask, AreDistinct, IsMeasured}
 use Rattle.rt_template.specs.Strips.{Placed, strip_at}
 use Rattle.rt_template.specs.Standing.{IsStrip, AreOfOneMask}
 use Rattle.rt_template.specs.Separate.{AreSeparateStrips}
@@ -38,14 +38,14 @@ two_separate a b h k clear = record { nonempty = each; separate = apart } where
   apart (suc (suc i)) j both = absurd (omega (arith, both.first.below_count))
 
 -- a table of two masks of different names and layers
-pub two_masks : (tech : Tech) (a b : Mask) → tech.masks ≡ a ∷ b ∷ [] → IsValidMask a → IsValidMask b → tech.grid ≡ pos 1
-    → a.name ≡ 109 ∷ 48 ∷ [] → b.name ≡ 109 ∷ 49 ∷ [] → a.layer ≡ pos 1 → b.layer ≡ pos 2 → IsValidTech tech
+pub two_masks : (tech : Tech) (a b : Mask) → tech.masks ≡ a ∷ b ∷ [] → IsMeasuredMask a → IsMeasuredMask b → tech.grid ≡ pos 1
+    → a.name ≡ 109 ∷ 48 ∷ [] → b.name ≡ 109 ∷ 49 ∷ [] → a.layer ≡ pos 1 → b.layer ≡ pos 2 → IsMeasured tech
 two_masks tech a b e h k g p q l m =
-    let apart : AreApart a b = record { names = λ f. omega (arith, ap (λ xs. get_or xs 1 0) (sym p ∙ (f ∙ q))); pairs = λ f. omega (arith, ints, sym l ∙ (ap (λ (t : ℤ × ℤ). t.0) f ∙ m)) } in
+    let apart : AreDistinct a b = record { names = λ f. omega (arith, ap (λ xs. get_or xs 1 0) (sym p ∙ (f ∙ q))); pairs = λ f. omega (arith, ints, sym l ∙ (ap (λ (t : ℤ × ℤ). t.0) f ∙ m)) } in
     record {
       grid = record { low = omega (arith, ints); high = omega (arith, ints) };
       some_masks = omega (arith, ap length e);
       few_masks = omega (arith, ap length e);
-      masks = subst (All IsValidMask) (sym e) (All-cons IsValidMask a (b ∷ []) h (All-cons IsValidMask b [] k (All-nil IsValidMask)));
-      apart = subst (AllPairs AreApart) (sym e) (AllPairs-cons AreApart a (b ∷ []) (All-cons (AreApart a) b [] apart (All-nil (AreApart a))) (λ i j d before below. absurd (omega (arith, before, below))));
+      masks = subst (All IsMeasuredMask) (sym e) (All-cons IsMeasuredMask a (b ∷ []) h (All-cons IsMeasuredMask b [] k (All-nil IsMeasuredMask)));
+      apart = subst (AllPairs AreDistinct) (sym e) (AllPairs-cons AreDistinct a (b ∷ []) (All-cons (AreDistinct a) b [] apart (All-nil (AreDistinct a))) (λ i j d before below. absurd (omega (arith, before, below))));
     }

@@ -1,5 +1,5 @@
 ghost use Rattle.std.specs.Prelude.{map, OnOk, IfErr};
-ghost use Rattle.rt_tech.specs.Tech.{IsValidTech, IsValidMask};
+ghost use Rattle.rt_tech.specs.Tech.{IsMeasured, IsMeasuredMask};
 ghost use Rattle.rt_template.specs.Strips.{placed};
 ghost use Rattle.rt_template.specs.Separate.{AreSeparateStrips, AreOnMasksOf};
 ghost use Rattle.rt_template.specs.Rules.{BreaksNoRule, KeepsMaskRules};
@@ -17,7 +17,7 @@ use rt_template::Strip;
 pub fn check_rules(strips: &[Strip], tech: &Tech) -> Result<(), RuleError>
     requires separate { AreSeparateStrips (map placed strips.now) }
     requires masks { AreOnMasksOf tech.now (map placed strips.now) }
-    requires table { IsValidTech tech.now }
+    requires table { IsMeasured tech.now }
     ensures kept { OnOk result (BreaksNoRule tech.now (map placed strips.now)) }
     ensures broken { IfErr result (IsBreachOf tech.now (map placed strips.now)) }
 {
@@ -32,7 +32,7 @@ pub fn check_rules(strips: &[Strip], tech: &Tech) -> Result<(), RuleError>
 // The same for one mask of a number.
 fn check_mask(strips: &[Strip], m: u32, mask: &Mask) -> Result<(), RuleError>
     requires separate { AreSeparateStrips (map placed strips.now) }
-    requires table { IsValidMask mask.now }
+    requires table { IsMeasuredMask mask.now }
     ensures kept { OnOk result (KeepsMaskRules mask.now.width mask.now.space (map placed strips.now) m) }
     ensures broken { IfErr result (IsMaskBreachOf mask.now.width mask.now.space (map placed strips.now) m) }
 {
@@ -62,7 +62,7 @@ fn check_width(strips: &[Strip], m: u32, mask: &Mask) -> Result<(), RuleError>
 // Whether the strips of a mask, all wide and high enough, are far enough apart.
 fn check_space(strips: &[Strip], m: u32, mask: &Mask) -> Result<(), RuleError>
     requires separate { AreSeparateStrips (map placed strips.now) }
-    requires table { IsValidMask mask.now }
+    requires table { IsMeasuredMask mask.now }
     requires wide { AreWideOn m mask.now.width (map placed strips.now) }
     ensures kept { OnOk result (KeepsMaskRules mask.now.width mask.now.space (map placed strips.now) m) }
     ensures broken { IfErr result (IsMaskBreachOf mask.now.width mask.now.space (map placed strips.now) m) }

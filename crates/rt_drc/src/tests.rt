@@ -2,11 +2,11 @@ ghost use Rattle.std.specs.Prelude.{◌≡◌, ◌<◌, ◌≤◌, ◌≤ℤ◌,
 ghost use Rattle.std.specs.Bool.{OnTrue};
 ghost use Rattle.rt_cells.specs.Rectangles.{ShareCellOrSide};
 ghost use Rattle.rt_base.specs.Plane.{area};
-ghost use Rattle.rt_tech.specs.Tech.{IsValidTech, IsValidMask, IsLength, IsLayer, mask_count};
+ghost use Rattle.rt_tech.specs.Tech.{IsMeasured, IsMeasuredMask, IsLength, IsLayer, mask_count};
 
 use crate::check_rules;
 use rt_base::{Cell, List, OutOfMemory, Rect, Text};
-use rt_tech::{Mask, RuleError, RuleName, Tech};
+use rt_tech::{Mask, Role, RuleError, RuleName, Tech};
 use rt_template::Strip;
 use std::alloc::Global;
 use std::test::Fail;
@@ -130,7 +130,7 @@ fn mask(
     requires layer { IsLayer layer }
     requires width { IsLength width }
     requires space { IsLength space }
-    ensures valid { IfOk result (λ o. IfSome o IsValidMask) }
+    ensures valid { IfOk result (λ o. IfSome o IsMeasuredMask) }
     ensures named { IfOk result (λ o. IfSome o (λ m. m.name ≡ 109 ∷ digit ∷ [])) }
     ensures on_layer { IfOk result (λ o. IfSome o (λ m. m.layer ≡ layer)) }
 {
@@ -140,16 +140,20 @@ fn mask(
     };
     Ok(Some(Mask {
         name,
+        role: Role::Metal,
         layer,
         datatype: 0,
+        note: None,
         width,
         space,
+        upper: 0,
+        lowers: List::new(alloc),
     }))
 }
 
 // A table of two masks: the first of width 10 and space 20, the second of width 30 and space 40.
 fn table(alloc: Global) -> Result<Option<Tech>, OutOfMemory>
-    ensures valid { IfOk result (λ o. IfSome o IsValidTech) }
+    ensures valid { IfOk result (λ o. IfSome o IsMeasured) }
     ensures two { IfOk result (λ o. IfSome o (λ tech. mask_count tech ≡ 2)) }
 {
     let Some(first) = mask(alloc, b'0', 1, 10, 20)? else {
@@ -165,6 +169,12 @@ fn table(alloc: Global) -> Result<Option<Tech>, OutOfMemory>
         grid: 1,
         units: [0; 16],
         masks,
+        encloses: List::new(alloc),
+        gates: None,
+        aparts: List::new(alloc),
+        kinds: List::new(alloc),
+        ignored: List::new(alloc),
+        drop_unlisted: false,
     }))
 }
 
@@ -173,7 +183,7 @@ fn answer(a: Strip, b: Strip, tech: &Tech) -> Result<(), RuleError>
     requires clear { ¬ ShareCellOrSide (area a.at) (area b.at) }
     requires first { a.mask < mask_count tech.now }
     requires second { b.mask < mask_count tech.now }
-    requires table { IsValidTech tech.now }
+    requires table { IsMeasured tech.now }
 {
     check_rules(&[a, b], tech)
 }

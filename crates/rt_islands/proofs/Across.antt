@@ -10,7 +10,7 @@ use Rattle.rt_rows.specs.declared.row.Var.TheVariants.{L, R, Width}
 use Rattle.rt_rows.specs.declared.name.Name.{Name}
 use Rattle.rt_rows.specs.declared.name.Name.TheVariants.{Lo, Hi, Zero, Top, Wide, Tall, Gap, Run}
 use Rattle.rt_rows.specs.Rows.{MeetsRow}
-use Rattle.rt_tech.specs.Tech.{space_of, IsValidTech}
+use Rattle.rt_tech.specs.Tech.{space_of, IsMeasured}
 use Rattle.rt_template.specs.declared.job.Job.{Job}
 use Rattle.rt_template.specs.Strips.{mask_of, bottom_of, top_of}
 use Rattle.rt_template.specs.Standing.{IsStrip, rows_apart}
@@ -67,7 +67,7 @@ from_equal z t limit e h = omega (arith, ints)
 pub to_equal : (z t limit : ℤ) → z ≡ t → t ≤ℤ limit → z ≤ℤ limit
 to_equal z t limit e h = omega (arith, ints)
 
-module _ (job : Job) (apart : AreSeparateStrips (strips_of job)) (source : IsValidTech job.source) (items : List Item) (seen : AreSeenAcross job items) where
+module _ (job : Job) (apart : AreSeparateStrips (strips_of job)) (source : IsMeasured job.source) (items : List Item) (seen : AreSeenAcross job items) where
   below : (i : ℕ) → i < length items → i < length job.strips
   below i h = subst (λ n. i < n) seen.one_each h
 

@@ -7,7 +7,7 @@ use Rattle.rt_path.specs.Least.{value_at}
 use Rattle.rt_rows.specs.declared.positions.Positions.{Positions}
 use Rattle.rt_rows.specs.declared.row.Var.TheVariants.{L, R}
 use Rattle.rt_rows.specs.Places.{places}
-use Rattle.rt_tech.specs.Tech.{IsValidTech}
+use Rattle.rt_tech.specs.Tech.{IsMeasured}
 use Rattle.rt_template.specs.declared.job.Job.{Job}
 use Rattle.rt_template.specs.Standing.{IsStrip}
 use Rattle.rt_template.specs.Separate.{AreSeparateStrips}
@@ -59,7 +59,7 @@ columns_of job line h =
       nonempty = λ i lt. nonempty_is h.items line h.least sound i (inside i lt);
     }
 
-module _ (job : Job) (apart : AreSeparateStrips (strips_of job)) (source : IsValidTech job.source) (target : IsValidTech job.target)
+module _ (job : Job) (apart : AreSeparateStrips (strips_of job)) (source : IsMeasured job.source) (target : IsMeasured job.target)
     (across upwards : Line) (at : Positions) (first : IsLineAcross job across) (second : IsLineUpwards job across upwards) (are : ArePlacesOf across upwards at) where
   at_left : (i : ℕ) → places at (L i) ≡ value_at across.starts.items i
   at_left i = ap (λ xs. value_at xs i) are.l

@@ -6,7 +6,7 @@ use Rattle.rt_cells.specs.Line.{Within, gap_of}
 use Rattle.rt_cells.specs.Cells.{Adjacent, ShareSide}
 use Rattle.rt_cells.specs.Rectangles.{Rectangle, IsNonempty, ShareCellOrSide}
 use Rattle.rt_tech.specs.declared.table.Tech.{Tech}
-use Rattle.rt_tech.specs.Tech.{IsLength, IsValidTech}
+use Rattle.rt_tech.specs.Tech.{IsLength, IsMeasured}
 use Rattle.rt_template.specs.declared.job.Strip.{Strip}
 use Rattle.rt_template.specs.Strips.{Placed, placed, strip_at}
 use Rattle.rt_template.specs.Standing.{IsStrip, AreOfOneMask}
@@ -17,7 +17,7 @@ use Rattle.rt_tech.proofs.Lengths.{width_is_length, space_is_length}
 more_fits : (w s rest : ℤ) (n : ℕ) → IsLength w → IsLength s → rest ≤ℤ pos (2000000 * n) → ((w +ℤ s) +ℤ rest) ≤ℤ pos (2000000 * suc n)
 more_fits w s rest n a b h = omega (arith, ints)
 
-fits_by_count : (tech : Tech) → IsValidTech tech → (strips : List Placed) → extent_side_by_side tech strips ≤ℤ pos (2000000 * length strips)
+fits_by_count : (tech : Tech) → IsMeasured tech → (strips : List Placed) → extent_side_by_side tech strips ≤ℤ pos (2000000 * length strips)
 fits_by_count tech valid [] = omega (arith, ints)
 fits_by_count tech valid (strip ∷ strips) =
     more_fits _ _ _ (length strips) (width_is_length tech valid strip.mask) (space_is_length tech valid strip.mask) (fits_by_count tech valid strips)
@@ -26,7 +26,7 @@ few_fit : (z : ℤ) (n : ℕ) → z ≤ℤ pos (2000000 * n) → n ≤ 10 → z 
 few_fit z n h k = omega (arith, ints)
 
 -- ten strips or fewer fit side by side
-pub ten_fit : (tech : Tech) → IsValidTech tech → (strips : List Placed) → length strips ≤ 10 → extent_side_by_side tech strips ≤ℤ pos 20000000
+pub ten_fit : (tech : Tech) → IsMeasured tech → (strips : List Placed) → length strips ≤ 10 → extent_side_by_side tech strips ≤ℤ pos 20000000
 ten_fit tech valid strips few = few_fit _ (length strips) (fits_by_count tech valid strips) few
 
 far_places : (a b c d z t : ℤ) → pos 0 <ℤ gap_of a b c d → Within a b z → Within c d t → (t ≡ z) ⊎ Adjacent z t → ⊥

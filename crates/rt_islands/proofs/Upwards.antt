@@ -9,7 +9,7 @@ use Rattle.rt_rows.specs.declared.row.Var.TheVariants.{L, R, B, T, Height}
 use Rattle.rt_rows.specs.declared.name.Name.{Name}
 use Rattle.rt_rows.specs.declared.name.Name.TheVariants.{Lo, Hi, Zero, Top, Wide, Tall, Gap, Run}
 use Rattle.rt_rows.specs.Rows.{MeetsRow}
-use Rattle.rt_tech.specs.Tech.{IsValidTech}
+use Rattle.rt_tech.specs.Tech.{IsMeasured}
 use Rattle.rt_template.specs.declared.job.Job.{Job}
 use Rattle.rt_template.specs.Strips.{mask_of}
 use Rattle.rt_template.specs.Standing.{IsStrip}
@@ -36,7 +36,7 @@ first_column l r h = record { from = omega (arith, ints); to = h }
 same_column : (l r : ℤ) → l <ℤ r → Within l r (l +ℤ pos 0)
 same_column l r h = record { from = omega (arith, ints); to = omega (arith, ints) }
 
-module _ (job : Job) (apart : AreSeparateStrips (strips_of job)) (target : IsValidTech job.target) (columns : Line) (at : Var → ℤ)
+module _ (job : Job) (apart : AreSeparateStrips (strips_of job)) (target : IsMeasured job.target) (columns : Line) (at : Var → ℤ)
     (lefts : (i : ℕ) → at (L i) ≡ value_at columns.starts.items i) (rights : (i : ℕ) → at (R i) ≡ value_at columns.ends.items i)
     (wide : (i : ℕ) → IsStrip (strips_of job) i → at (L i) <ℤ at (R i)) (items : List Item) (seen : AreSeenUpwards job columns items) where
   below : (i : ℕ) → i < length items → i < length job.strips

@@ -1,6 +1,6 @@
 ghost use Rattle.std.specs.Prelude.{◌≡◌, ◌≤◌, pos, ◌≤ℤ◌, length, IfOk};
 ghost use Rattle.rt_rows.specs.Places.{places};
-ghost use Rattle.rt_tech.specs.Tech.{IsValidTech};
+ghost use Rattle.rt_tech.specs.Tech.{IsMeasured};
 ghost use Rattle.rt_template.specs.Across.{strips_of, IsLeastAcross};
 ghost use Rattle.rt_template.specs.Upwards.{IsLeastUpwards};
 ghost use Rattle.rt_template.specs.Separate.{AreSeparateStrips, extent_side_by_side};
@@ -21,8 +21,8 @@ use std::alloc::Global;
 pub fn place(alloc: Global, job: &Job) -> Result<Positions, OutOfMemory>
     requires few { length job.now.strips ≤ 65536 }
     requires separate { AreSeparateStrips (strips_of job.now) }
-    requires source { IsValidTech job.now.source }
-    requires target { IsValidTech job.now.target }
+    requires source { IsMeasured job.now.source }
+    requires target { IsMeasured job.now.target }
     requires side_by_side { extent_side_by_side job.now.target (strips_of job.now) ≤ℤ pos 20000000 }
     ensures { IfOk result (λ at. PlacesEach job.now at × IsLeastAcross job.now (places at) × IsLeastUpwards job.now (places at) (places at)) }
 {
@@ -34,7 +34,7 @@ pub fn place(alloc: Global, job: &Job) -> Result<Positions, OutOfMemory>
 // The least positions across.
 fn line_across(alloc: Global, job: &Job) -> Result<Line, OutOfMemory>
     requires few { length job.now.strips ≤ 65536 }
-    requires target { IsValidTech job.now.target }
+    requires target { IsMeasured job.now.target }
     requires side_by_side { extent_side_by_side job.now.target (strips_of job.now) ≤ℤ pos 20000000 }
     ensures { IfOk result (λ line. IsLineAcross job.now line) }
 {
@@ -45,7 +45,7 @@ fn line_across(alloc: Global, job: &Job) -> Result<Line, OutOfMemory>
 // The least positions upwards, at the columns found across.
 fn line_upwards(alloc: Global, job: &Job, columns: &Line) -> Result<Line, OutOfMemory>
     requires few { length job.now.strips ≤ 65536 }
-    requires target { IsValidTech job.now.target }
+    requires target { IsMeasured job.now.target }
     requires columns { IsLineAcross job.now columns.now }
     requires side_by_side { extent_side_by_side job.now.target (strips_of job.now) ≤ℤ pos 20000000 }
     ensures { IfOk result (λ line. IsLineUpwards job.now columns.now line) }

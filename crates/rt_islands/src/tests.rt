@@ -1,5 +1,5 @@
 ghost use Rattle.std.specs.Prelude.{◌≡◌, ◌≤◌, ◌<◌, [], ◌∷◌, pos, length, map, IfOk, MatchBool};
-ghost use Rattle.rt_tech.specs.Tech.{IsValidTech, IsValidMask};
+ghost use Rattle.rt_tech.specs.Tech.{IsMeasured, IsMeasuredMask};
 ghost use Rattle.rt_template.specs.Strips.{placed};
 ghost use Rattle.rt_template.specs.Separate.{AreSeparateStrips};
 ghost use Rattle.rt_islands.specs.Trial.{AreApart};
@@ -7,7 +7,7 @@ ghost use Rattle.rt_islands.specs.Trial.{AreApart};
 use crate::place;
 use rt_base::{List, Rect, Text, gap_x, gap_y};
 use rt_rows::Positions;
-use rt_tech::{Mask, Tech};
+use rt_tech::{Mask, Role, Tech};
 use rt_template::{Job, Strip};
 use std::alloc::Global;
 use std::process::Abort;
@@ -19,16 +19,20 @@ fn mask(alloc: Global, letter: u8, width: u8, space: u8) -> Result<Mask, Fail>
     requires to { letter ≤ 122 }
     requires width { 1 ≤ width }
     requires space { 1 ≤ space }
-    ensures { IfOk result (λ mask. IsValidMask mask × (mask.name ≡ letter ∷ []) × (mask.layer ≡ pos letter)) }
+    ensures { IfOk result (λ mask. IsMeasuredMask mask × (mask.name ≡ letter ∷ []) × (mask.layer ≡ pos letter)) }
 {
     let mut name = List::new(alloc);
     name.push(letter)?;
     Ok(Mask {
         name: Text::of(name).ok_or("not a text")?,
+        role: Role::Metal,
         layer: i16::from(letter),
         datatype: 0,
+        note: None,
         width: i64::from(width),
         space: i64::from(space),
+        upper: 0,
+        lowers: List::new(alloc),
     })
 }
 
@@ -36,7 +40,7 @@ fn mask(alloc: Global, letter: u8, width: u8, space: u8) -> Result<Mask, Fail>
 fn table(alloc: Global, width: u8, space: u8) -> Result<Tech, Fail>
     requires width { 1 ≤ width }
     requires space { 1 ≤ space }
-    ensures { IfOk result (λ tech. IsValidTech tech) }
+    ensures { IfOk result (λ tech. IsMeasured tech) }
 {
     let mut masks = List::new(alloc);
     masks.push(mask(alloc, b'a', width, space)?)?;
@@ -45,6 +49,12 @@ fn table(alloc: Global, width: u8, space: u8) -> Result<Tech, Fail>
         grid: 1,
         units: [0; 16],
         masks,
+        encloses: List::new(alloc),
+        gates: None,
+        aparts: List::new(alloc),
+        kinds: List::new(alloc),
+        ignored: List::new(alloc),
+        drop_unlisted: false,
     })
 }
 

@@ -1,5 +1,5 @@
 ghost use Rattle.std.specs.Prelude.{◌≡◌, ◌<◌, ◌≤◌, length, IfOk};
-ghost use Rattle.rt_tech.specs.Tech.{IsValidTech};
+ghost use Rattle.rt_tech.specs.Tech.{IsMeasured};
 ghost use Rattle.rt_islands.specs.Items.{IsItem};
 ghost use Rattle.rt_islands.specs.Views.{IsSeenAcross, IsSeenUpwards, AreSeenAcross, AreSeenUpwards, AreColumns};
 
@@ -12,7 +12,7 @@ use std::alloc::Global;
 
 /// The strips as the axis across sees them.
 pub fn items_across(alloc: Global, job: &Job) -> Result<Vec<Item>, OutOfMemory>
-    requires target { IsValidTech job.now.target }
+    requires target { IsMeasured job.now.target }
     ensures { IfOk result (λ items. AreSeenAcross job.now items.items) }
 {
     let mut items = Vec::new(alloc);
@@ -24,7 +24,7 @@ pub fn items_across(alloc: Global, job: &Job) -> Result<Vec<Item>, OutOfMemory>
 
 /// The strips as the axis upwards sees them, at the columns found across.
 pub fn items_upwards(alloc: Global, job: &Job, columns: &Line) -> Result<Vec<Item>, OutOfMemory>
-    requires target { IsValidTech job.now.target }
+    requires target { IsMeasured job.now.target }
     requires columns { AreColumns job.now columns.now }
     ensures { IfOk result (λ items. AreSeenUpwards job.now columns.now items.items) }
 {
@@ -38,7 +38,7 @@ pub fn items_upwards(alloc: Global, job: &Job, columns: &Line) -> Result<Vec<Ite
 // Strip i as the axis across sees it.
 fn item_across(job: &Job, i: usize) -> Item
     requires strip { i < length job.now.strips }
-    requires target { IsValidTech job.now.target }
+    requires target { IsMeasured job.now.target }
     ensures seen { IsSeenAcross job.now i result }
     ensures item { IsItem result }
 {
@@ -58,7 +58,7 @@ fn item_across(job: &Job, i: usize) -> Item
 // Strip i as the axis upwards sees it, at the columns found across.
 fn item_upwards(job: &Job, columns: &Line, i: usize) -> Item
     requires strip { i < length job.now.strips }
-    requires target { IsValidTech job.now.target }
+    requires target { IsMeasured job.now.target }
     requires columns { AreColumns job.now columns.now }
     ensures seen { IsSeenUpwards job.now columns.now i result }
     ensures item { IsItem result }

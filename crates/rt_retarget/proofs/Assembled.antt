@@ -1,5 +1,5 @@
 -- From the parts of a run to the relation of the headline.
-use Rattle.std.proofs.Common.{◌≡◌, ℕ, ◌+◌, ◌≤◌, ℤ, pos, ◌+ℤ◌, ◌<ℤ◌, ◌≤ℤ◌, List, length, map, ap, ◌∙◌, sym, subst, arith}
+use Rattle.std.proofs.Common.{◌≡◌, ℕ, ◌+◌, ◌<◌, ◌≤◌, ℤ, pos, ◌+ℤ◌, ◌<ℤ◌, ◌≤ℤ◌, List, [], length, map, None, inr, ap, ◌∙◌, sym, subst, arith}
 use Rattle.std.proofs.lemmas.Int.{ints}
 use Rattle.std.specs.Prelude.{All}
 use Rattle.rt_cells.specs.Rectangles.{IsNonempty}
@@ -14,9 +14,11 @@ use Rattle.rt_rows.specs.declared.row.Var.TheVariants.{L, R, B, T}
 use Rattle.rt_rows.specs.declared.name.Name.TheVariants.{Wide, Tall}
 use Rattle.rt_tech.specs.declared.table.Tech.{Tech}
 use Rattle.rt_tech.specs.declared.table.Which.TheVariants.{Source, Target}
-use Rattle.rt_tech.specs.Tech.{IsValidTech}
-use Rattle.rt_tables.proofs.Readings.{valid_table}
-use Rattle.rt_tables.specs.Tables.{IsTechOf, HaveSameNames}
+use Rattle.rt_tech.specs.Tech.{IsMeasured}
+use Rattle.rt_sizes.specs.declared.given.Sizes.{Sizes}
+use Rattle.rt_sizes.specs.Wishes.{wishes_fault}
+use Rattle.rt_tech.proofs.Measured.{measured}
+use Rattle.rt_tables.proofs.Valid.{valid_table}
 use Rattle.rt_template.specs.declared.job.Job.{Job}
 use Rattle.rt_template.specs.declared.job.Strip.{Strip}
 use Rattle.rt_template.specs.Strips.{Placed, placed}
@@ -27,12 +29,13 @@ use Rattle.rt_template.specs.Drawing.{drawn_area}
 use Rattle.rt_template.specs.Rules.{BreaksNoRule, IsFirstBreach}
 use Rattle.rt_carry.proofs.Valid.{width_positive}
 use Rattle.rt_carry.proofs.Carrying.{beyond_holds, drawings_keep}
-use Rattle.rt_retarget.specs.Thin.{AreTables, ThinInput, IsThinLayout}
+use Rattle.rt_retarget.specs.Thin.{AreFiles, AreBuilt, ThinInput, IsThinLayout}
 use Rattle.rt_retarget.specs.Layout.{IsSourceLayout, IsFlatLayout}
 use Rattle.rt_retarget.specs.Moved.{Moved, IsMovedOut, drawing_of}
 use Rattle.rt_retarget.specs.declared.answer.Fault.{Fault}
-use Rattle.rt_retarget.specs.declared.answer.Fault.TheVariants.{NotBuilt, BadStream, SourceRule, OutOfMemory}
-use Rattle.rt_retarget.specs.Answers.{IsDone, IsFaultOf, IsStreamFaultOf, IsSourceFaultOf}
+use Rattle.rt_retarget.specs.declared.answer.Fault.TheVariants.{TableToml, BadTable, TablesDiffer, SizesToml, BadSizes, NotBuilt, BadStream, SourceRule, OutOfMemory}
+use Rattle.rt_retarget.specs.Answers.{IsDone, IsFaultOf}
+use Rattle.rt_retarget.specs.Stages.{IsSourceFaultOf, IsStrayFaultOf}
 use Rattle.rt_retarget.specs.Making.{IsThinJob, IsJobOf, IsWrittenFor, IsThinCase}
 use Rattle.rt_retarget.proofs.Items.{as_many, on_mask}
 use Rattle.rt_retarget.proofs.Flattened.{source_layout, drawn_layout, drawables}
@@ -47,7 +50,7 @@ from_zero : (i : ℕ) → i ≡ 0 + i
 from_zero i = omega arith
 
 -- each drawn rectangle has a cell
-drawn_nonempty : (job : Job) (at : Var → ℤ) → IsValidTech job.target → MeetsAcross job at → MeetsUpwards job at at → (i : ℕ) → IsStrip (strips_of job) i
+drawn_nonempty : (job : Job) (at : Var → ℤ) → IsMeasured job.target → MeetsAcross job at → MeetsUpwards job at at → (i : ℕ) → IsStrip (strips_of job) i
     → IsNonempty (drawn_area job.target.grid at i)
 drawn_nonempty job at valid across upwards i h = record {
   across = times_lt job.target.grid (at (L i)) (at (R i)) valid.grid.low
@@ -76,80 +79,98 @@ moved_out job library cell bytes thin w =
     }
 
 -- the parts of a run make up the relation of the headline
-pub moved : (source stable ttable sizes out : List ℕ) (library : Library) (cell : List ℕ) (s t : Tech) (layout : List Placed) (job : Job)
-    → Stream source library → AreTables stable ttable sizes s t cell → IsThinLayout library cell s t layout → BreaksNoRule s layout
-    → IsJobOf layout s t job → IsWrittenFor job library.name cell out → Moved source stable ttable sizes out
-moved source stable ttable sizes out library cell s t layout job stream read laid sound is_job w = record {
-  cell = cell;
+pub moved : (source stable ttable sizes out : List ℕ) (library : Library) (asked : Sizes) (s t : Tech) (layout : List Placed) (job : Job)
+    → Stream source library → AreFiles stable ttable sizes s t asked → IsThinLayout library asked.cell s t layout → BreaksNoRule s layout
+    → IsJobOf layout s t job → IsWrittenFor job library.name asked.cell out → Moved source stable ttable sizes out
+moved source stable ttable sizes out library asked s t layout job stream files laid sound is_job w = record {
+  asked = asked;
   library = library;
   job = job;
   at = w.at;
   from = record {
-    source_table = subst (IsTechOf Source stable) (sym is_job.source_is) read.source_read;
-    target_table = subst (IsTechOf Target ttable) (sym is_job.target_is) read.target_read;
-    same_masks = subst (λ (z : Tech). HaveSameNames z job.target) (sym is_job.source_is) (subst (λ (z : Tech). HaveSameNames s z) (sym is_job.target_is) read.same_names);
-    named = read.sizes_read;
+    files = subst (λ (z : Tech). AreFiles stable ttable sizes z job.target asked) (sym is_job.source_is) (subst (λ (z : Tech). AreFiles stable ttable sizes s z asked) (sym is_job.target_is) files);
     stream = stream;
     layout = layout;
-    drawn = subst (λ (z : Tech). IsSourceLayout z library cell layout) (sym is_job.source_is) (source_layout s t library cell layout laid);
+    drawn = subst (λ (z : Tech). IsSourceLayout z library asked.cell layout) (sym is_job.source_is) (source_layout s t library asked.cell layout laid);
     sound = subst (λ (z : Tech). BreaksNoRule z layout) (sym is_job.source_is) sound;
     strips = is_job.strips;
   };
   across = w.across;
   upwards = w.upwards;
-  to = moved_out job library cell out is_job.thin w;
+  to = moved_out job library asked.cell out is_job.thin w;
 }
 
 -- thin input that was read and laid out
-pub thin_case : (stable ttable sizes : List ℕ) (library : Library) (cell : List ℕ) (s t : Tech) (rectangles : List Strip)
-    → AreTables stable ttable sizes s t cell → IsThinLayout library cell s t (map placed rectangles) → IsThinCase stable ttable sizes library cell s t (map placed rectangles)
-thin_case stable ttable sizes library cell s t rectangles read laid =
+pub thin_case : (source stable ttable sizes : List ℕ) (library : Library) (asked : Sizes) (s t : Tech) (rectangles : List Strip)
+    → AreFiles stable ttable sizes s t asked → AreBuilt s asked → Stream source library → IsThinLayout library asked.cell s t (map placed rectangles)
+    → IsThinCase source stable ttable sizes library asked s t (map placed rectangles)
+thin_case source stable ttable sizes library asked s t rectangles files built stream laid =
     let n = as_many s laid.elements (map placed rectangles) laid.items in
     record {
-      tables = read;
+      files = files;
+      built = built;
+      stream = stream;
       laid_out = laid;
-      source_valid = valid_table Source stable s read.source_read;
-      target_valid = valid_table Target ttable t read.target_read;
+      source_valid = measured s (valid_table Source stable s files.tables.source_read);
+      target_valid = measured t (valid_table Target ttable t files.tables.target_read);
       on_masks = record { masks = λ i h. on_mask s laid.elements (map placed rectangles) laid.items i h.below_count };
       few = omega (arith, n, laid.few);
     }
 
--- a refusal of the source is a refusal of the files
-pub fault_of_source : (source stable ttable sizes cell : List ℕ) (s t : Tech) → AreTables stable ttable sizes s t cell
-    → (fault : Fault) → IsStreamFaultOf source fault → IsFaultOf source stable ttable sizes fault
-fault_of_source source stable ttable sizes cell s t read NotBuilt h = absurd h
-fault_of_source source stable ttable sizes cell s t read (BadStream offset cause) h = record { source_table = s; target_table = t; cell = cell; tables = read; stops = h }
-fault_of_source source stable ttable sizes cell s t read (SourceRule rule p q found needed) h = absurd h
-fault_of_source source stable ttable sizes cell s t read OutOfMemory h = tt
-
 -- thin input, from its parts
-abbrev thin_of : (source stable ttable sizes : List ℕ) (library : Library) (cell : List ℕ) (s t : Tech) (layout : List Placed)
-    → Stream source library → IsThinCase stable ttable sizes library cell s t layout → ThinInput source stable ttable sizes
-thin_of source stable ttable sizes library cell s t layout stream thin =
-    record { source_table = s; target_table = t; cell = cell; library = library; layout = layout; tables = thin.tables; stream = stream; laid_out = thin.laid_out }
+abbrev thin_of : (source stable ttable sizes : List ℕ) (library : Library) (asked : Sizes) (s t : Tech) (layout : List Placed)
+    → IsThinCase source stable ttable sizes library asked s t layout → ThinInput source stable ttable sizes
+thin_of source stable ttable sizes library asked s t layout thin =
+    record { source_table = s; target_table = t; asked = asked; library = library; layout = layout; files = thin.files; built = thin.built; stream = thin.stream; laid_out = thin.laid_out }
 
 -- a refusal of the layout is a refusal of the files
-pub fault_of_files : (source stable ttable sizes : List ℕ) (library : Library) (cell : List ℕ) (s t : Tech) (rectangles seen : List Strip)
-    → Stream source library → IsThinCase stable ttable sizes library cell s t (map placed rectangles)
+pub fault_of_rules : (source stable ttable sizes : List ℕ) (library : Library) (asked : Sizes) (s t : Tech) (rectangles seen : List Strip)
+    → IsThinCase source stable ttable sizes library asked s t (map placed rectangles)
     → seen ≡ rectangles → (fault : Fault) → IsSourceFaultOf s (map placed seen) fault → IsFaultOf source stable ttable sizes fault
-fault_of_files source stable ttable sizes library cell s t rectangles seen stream thin same NotBuilt h = absurd h
-fault_of_files source stable ttable sizes library cell s t rectangles seen stream thin same (BadStream offset cause) h = absurd h
-fault_of_files source stable ttable sizes library cell s t rectangles seen stream thin same (SourceRule rule p q found needed) h = record {
-  thin = thin_of source stable ttable sizes library cell s t (map placed rectangles) stream thin;
-  broken = subst (λ (strips : List Strip). IsFirstBreach s (map placed strips) rule p q found needed) same h;
+fault_of_rules source stable ttable sizes library asked s t rectangles seen thin same (SourceRule rule mask p q found needed) h = record {
+  thin = thin_of source stable ttable sizes library asked s t (map placed rectangles) thin;
+  broken = subst (λ (strips : List Strip). IsFirstBreach s (map placed strips) rule p q found needed) same h.0;
+  named = h.1;
 }
-fault_of_files source stable ttable sizes library cell s t rectangles seen stream thin same OutOfMemory h = tt
+fault_of_rules source stable ttable sizes library asked s t rectangles seen thin same OutOfMemory h = tt
+fault_of_rules source stable ttable sizes library asked s t rectangles seen thin same (TableToml which) h = absurd h
+fault_of_rules source stable ttable sizes library asked s t rectangles seen thin same (BadTable which key cause) h = absurd h
+fault_of_rules source stable ttable sizes library asked s t rectangles seen thin same (TablesDiffer key) h = absurd h
+fault_of_rules source stable ttable sizes library asked s t rectangles seen thin same SizesToml h = absurd h
+fault_of_rules source stable ttable sizes library asked s t rectangles seen thin same (BadSizes key cause) h = absurd h
+fault_of_rules source stable ttable sizes library asked s t rectangles seen thin same NotBuilt h = absurd h
+fault_of_rules source stable ttable sizes library asked s t rectangles seen thin same (BadStream offset cause) h = absurd h
+
+-- a refusal of stray sizes is a refusal of the files
+pub fault_of_strays : (source stable ttable sizes : List ℕ) (library : Library) (asked : Sizes) (s t : Tech) (rectangles seen : List Strip)
+    → IsThinCase source stable ttable sizes library asked s t (map placed rectangles)
+    → seen ≡ rectangles → BreaksNoRule s (map placed seen) → (fault : Fault) → IsStrayFaultOf asked fault → IsFaultOf source stable ttable sizes fault
+fault_of_strays source stable ttable sizes library asked s t rectangles seen thin same kept (BadSizes key cause) h = inr (record {
+  thin = thin_of source stable ttable sizes library asked s t (map placed rectangles) thin;
+  sound = subst (λ (strips : List Strip). BreaksNoRule s (map placed strips)) same kept;
+  refused = h;
+})
+fault_of_strays source stable ttable sizes library asked s t rectangles seen thin same kept OutOfMemory h = tt
+fault_of_strays source stable ttable sizes library asked s t rectangles seen thin same kept (TableToml which) h = absurd h
+fault_of_strays source stable ttable sizes library asked s t rectangles seen thin same kept (BadTable which key cause) h = absurd h
+fault_of_strays source stable ttable sizes library asked s t rectangles seen thin same kept (TablesDiffer key) h = absurd h
+fault_of_strays source stable ttable sizes library asked s t rectangles seen thin same kept SizesToml h = absurd h
+fault_of_strays source stable ttable sizes library asked s t rectangles seen thin same kept NotBuilt h = absurd h
+fault_of_strays source stable ttable sizes library asked s t rectangles seen thin same kept (BadStream offset cause) h = absurd h
+fault_of_strays source stable ttable sizes library asked s t rectangles seen thin same kept (SourceRule rule mask p q found needed) h = absurd h
 
 -- the parts of a run that ends well
-pub done : (source stable ttable sizes out bytes : List ℕ) (library : Library) (cell : List ℕ) (s t : Tech) (rectangles seen : List Strip) (job : Job)
-    → Stream source library → IsThinCase stable ttable sizes library cell s t (map placed rectangles) → seen ≡ rectangles → BreaksNoRule s (map placed seen)
-    → IsJobOf (map placed rectangles) s t job → IsWrittenFor job library.name cell bytes → out ≡ bytes → IsDone source stable ttable sizes out
-done source stable ttable sizes out bytes library cell s t rectangles seen job stream thin same kept is_job w is =
+pub done : (source stable ttable sizes out bytes : List ℕ) (library : Library) (asked : Sizes) (s t : Tech) (rectangles seen : List Strip) (job : Job)
+    → IsThinCase source stable ttable sizes library asked s t (map placed rectangles) → seen ≡ rectangles → BreaksNoRule s (map placed seen)
+    → wishes_fault asked [] ≡ None
+    → IsJobOf (map placed rectangles) s t job → IsWrittenFor job library.name asked.cell bytes → out ≡ bytes → IsDone source stable ttable sizes out
+done source stable ttable sizes out bytes library asked s t rectangles seen job thin same kept none is_job w is =
     let sound = subst (λ (strips : List Strip). BreaksNoRule s (map placed strips)) same kept in
     record {
-      thin = thin_of source stable ttable sizes library cell s t (map placed rectangles) stream thin;
+      thin = thin_of source stable ttable sizes library asked s t (map placed rectangles) thin;
       sound = sound;
-      moved = subst (Moved source stable ttable sizes) (sym is) (moved source stable ttable sizes bytes library cell s t (map placed rectangles) job stream thin.tables thin.laid_out sound is_job w);
+      no_strays = none;
+      moved = subst (Moved source stable ttable sizes) (sym is) (moved source stable ttable sizes bytes library asked s t (map placed rectangles) job thin.stream thin.files thin.laid_out sound is_job w);
     }
 
 -- the library's name fits a record
@@ -162,3 +183,10 @@ pub cell_short : (source : List ℕ) (library : Library) (cell : List ℕ) (s t 
 cell_short source library cell s t layout stream thin =
     let all = subst (λ (structures : List Structure). All IsLawfulStructure structures) thin.one_structure (stream_is_lawful source library stream).structures in
     (all 0 (record { name = cell; elements = thin.elements }) (omega arith)).short
+
+-- and it isn't empty
+pub cell_named : (source : List ℕ) (library : Library) (cell : List ℕ) (s t : Tech) (layout : List Placed) → Stream source library
+    → IsThinLayout library cell s t layout → 0 < length cell
+cell_named source library cell s t layout stream thin =
+    let all = subst (λ (structures : List Structure). All IsLawfulStructure structures) thin.one_structure (stream_is_lawful source library stream).structures in
+    (all 0 (record { name = cell; elements = thin.elements }) (omega arith)).named

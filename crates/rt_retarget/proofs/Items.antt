@@ -1,20 +1,18 @@
 -- Rectangles on masks, one by one.
-use Rattle.std.proofs.Common.{◌≡◌, ℕ, suc, zero, ◌+◌, ◌<◌, ◌≤◌, ℤ, List, [], ◌∷◌, ◌++◌, length, map, take, get_or, Some, ap, ◌∙◌, sym, subst, arith, refl, inl, inr}
+use Rattle.std.proofs.Common.{◌≡◌, ℕ, suc, zero, ◌+◌, ◌<◌, ◌≤◌, ℤ, List, [], ◌∷◌, ◌++◌, length, map, take, get_or, ap, ◌∙◌, sym, subst, arith, refl, inl, inr}
 use Rattle.std.specs.Prelude.{AllPairs}
 use Rattle.std.specs.List.{AllZip}
 use Rattle.std.proofs.lemmas.Bool.{cases_lt}
 use Rattle.std.proofs.lemmas.List.{take_more, map_push, length-map}
-use Rattle.std.proofs.lemmas.Option.{slice_get-get_or, get_or_from_slice_get, slice_get_within}
+use Rattle.std.proofs.lemmas.Option.{get_or_from_slice_get, slice_get_within}
 use Rattle.rt_cells.specs.Rectangles.{Rectangle}
 use Rattle.gds_stream.specs.declared.library.Element.{Element}
 use Rattle.gds_stream.specs.declared.library.Library.{Library}
 use Rattle.rt_tech.specs.declared.table.Mask.{Mask}
 use Rattle.rt_tech.specs.declared.table.Tech.{Tech}
-use Rattle.rt_tech.specs.Tech.{pair_of, mask_count, AreApart, IsValidTech}
+use Rattle.rt_tech.specs.Tech.{pair_of, mask_count, AreDistinct, IsMeasured}
 use Rattle.rt_template.specs.declared.job.Strip.{Strip}
 use Rattle.rt_template.specs.Strips.{Placed, placed, mask_of}
-use Rattle.rt_template.specs.Separate.{AreSeparateStrips}
-use Rattle.rt_strips.specs.Touching.{SomeTouch}
 use Rattle.rt_base.specs.declared.plane.Point.{Point}
 use Rattle.gds_stream.specs.declared.library.Structure.{Structure}
 use Rattle.rt_retarget.specs.Layout.{IsMaskOfPairIn, IsRound, IsOneStructure}
@@ -25,11 +23,6 @@ use Rattle.rt_retarget.proofs.Rounds.{one_rectangle, same_polygon}
 pub not_this : (masks : List Mask) (layer datatype : ℤ) (m : ℕ) (mask : Mask) → mask ≡ get_or masks m mask
     → (pair_of mask ≡ (layer, datatype) → ⊥) → IsMaskOfPairIn masks layer datatype m → ⊥
 not_this masks layer datatype m mask e not is = not (ap pair_of (e ∙ get_or_from_slice_get masks m is.mask mask is.is_mask) ∙ is.pair)
-
--- the mask that was read is of the pair
-pub this_one : (masks : List Mask) (layer datatype : ℤ) (m : ℕ) (mask : Mask) → m < length masks → mask ≡ get_or masks m mask
-    → pair_of mask ≡ (layer, datatype) → IsMaskOfPairIn masks layer datatype m
-this_one masks layer datatype m mask h e is = record { mask = mask; is_mask = slice_get-get_or masks m mask h ∙ ap Some (sym e); pair = is }
 
 -- none of all the masks is of the pair
 pub none_of_all : (masks : List Mask) (layer datatype : ℤ) (m : ℕ) → length masks ≤ m
@@ -75,13 +68,13 @@ as_many tech (s ∷ elements) [] all = absurd all
 as_many tech (s ∷ elements) (p ∷ layout) all = ap suc (as_many tech elements layout all.1)
 
 -- the pairs of a valid table differ
-pairs_differ : (masks : List Mask) → AllPairs AreApart masks → (layer datatype : ℤ) (m k : ℕ) → IsMaskOfPairIn masks layer datatype m → IsMaskOfPairIn masks layer datatype k → m < k → ⊥
+pairs_differ : (masks : List Mask) → AllPairs AreDistinct masks → (layer datatype : ℤ) (m k : ℕ) → IsMaskOfPairIn masks layer datatype m → IsMaskOfPairIn masks layer datatype k → m < k → ⊥
 pairs_differ masks apart layer datatype m k a b lt =
     let there : k < length masks = slice_get_within masks k b.mask b.is_mask in
     let differ = apart m k a.mask lt there in
     differ.pairs (ap pair_of (get_or_from_slice_get masks m a.mask a.mask a.is_mask) ∙ a.pair ∙ sym b.pair ∙ sym (ap pair_of (get_or_from_slice_get masks k b.mask a.mask b.is_mask)))
 
-one_mask : (masks : List Mask) → AllPairs AreApart masks → (layer datatype : ℤ) (m k : ℕ) → IsMaskOfPairIn masks layer datatype m → IsMaskOfPairIn masks layer datatype k → m ≡ k
+one_mask : (masks : List Mask) → AllPairs AreDistinct masks → (layer datatype : ℤ) (m k : ℕ) → IsMaskOfPairIn masks layer datatype m → IsMaskOfPairIn masks layer datatype k → m ≡ k
 one_mask masks apart layer datatype m k a b =
     elim (cases_lt m k) [
       | inl lt ↦ absurd (pairs_differ masks apart layer datatype m k a b lt)
@@ -98,7 +91,7 @@ same_placed p q a b =
     ap with_mask a ∙ ap with_area b
 
 -- two draw the same rectangle
-pub one_item : (tech : Tech) → IsValidTech tech → (element : Element) (p q : Placed) → IsThinItem tech element p → IsThinItem tech element q → p ≡ q
+pub one_item : (tech : Tech) → IsMeasured tech → (element : Element) (p q : Placed) → IsThinItem tech element p → IsThinItem tech element q → p ≡ q
 one_item tech valid element p q f g =
     let same = same_polygon element f.drawn g.drawn in
     same_placed p q
@@ -108,7 +101,7 @@ one_item tech valid element p q f g =
     (one_rectangle f.drawn.points p.area q.area f.drawn.round (subst (λ (points : List Point). IsRound points q.area) (sym same.points) g.drawn.round) f.drawn.nonempty g.drawn.nonempty)
 
 -- the elements have one layout at most
-pub one_layout : (tech : Tech) → IsValidTech tech → (elements : List Element) (a b : List Placed) → AllZip (IsThinItem tech) elements a → AllZip (IsThinItem tech) elements b → a ≡ b
+pub one_layout : (tech : Tech) → IsMeasured tech → (elements : List Element) (a b : List Placed) → AllZip (IsThinItem tech) elements a → AllZip (IsThinItem tech) elements b → a ≡ b
 one_layout tech valid [] [] [] f g = refl
 one_layout tech valid [] [] (q ∷ b) f g = absurd g
 one_layout tech valid [] (p ∷ a) b f g = absurd f
@@ -119,11 +112,6 @@ one_layout tech valid (e ∷ elements) (p ∷ a) (q ∷ b) f g =
     let rest = one_layout tech valid elements a b f.1 g.1 in
     cc
 
--- rectangles that touch aren't separate
-pub touch_is_not_separate : (strips : List Placed) → SomeTouch strips → AreSeparateStrips strips → ⊥
-touch_is_not_separate strips t apart =
-    elim (apart.separate t.first t.second t.of_one_mask) [ inl same ↦ t.different same | inr not ↦ not t.share ]
-
 -- a library is one structure with one list of elements
 pub one_list : (library : Library) (cell : List ℕ) (a b : List Element) → IsOneStructure library cell a → IsOneStructure library cell b → a ≡ b
 one_list library cell a b e f = ap elements_of_first (sym e ∙ f)
@@ -133,7 +121,7 @@ one_list library cell a b e f = ap elements_of_first (sym e ∙ f)
     elements_of_first (s ∷ structures) = s.elements
 
 -- the rectangles that were found are the layout, so that it is thin where they are
-pub found_is_thin : (library : Library) (cell : List ℕ) (source target : Tech) → IsValidTech source → (elements : List Element) → IsOneStructure library cell elements
+pub found_is_thin : (library : Library) (cell : List ℕ) (source target : Tech) → IsMeasured source → (elements : List Element) → IsOneStructure library cell elements
     → (strips : List Placed) → AllZip (IsThinItem source) elements strips
     → (layout : List Placed) → IsThinLayout library cell source target layout → AreThin target strips
 found_is_thin library cell source target valid elements one strips all layout thin =

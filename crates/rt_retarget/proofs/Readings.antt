@@ -1,29 +1,32 @@
 -- What the tables, the sizes file and the source hold is one at most.
-use Rattle.std.proofs.Common.{◌≡◌, ℕ, List, subst}
+use Rattle.std.proofs.Common.{◌≡◌, ℕ, List, subst, sym, ap, ◌∙◌}
 use Rattle.rt_tech.specs.declared.table.Tech.{Tech}
 use Rattle.rt_tech.specs.declared.table.Which.TheVariants.{Source, Target}
-use Rattle.rt_tables.specs.Tables.{IsTechOf, HaveSameNames}
-use Rattle.rt_tables.proofs.Readings.{same_table, same_cell}
-use Rattle.rt_retarget.specs.Thin.{AreTables}
+use Rattle.toml.specs.Data.{Members}
+use Rattle.rt_sizes.specs.declared.given.Sizes.{Sizes}
+use Rattle.rt_keys.specs.Document.{IsDocument}
+use Rattle.rt_sizes.specs.SizesFile.{DescribesSizes, sizes_of}
+use Rattle.rt_tables.proofs.Valid.{same_table}
+use Rattle.rt_retarget.specs.Thin.{AreFiles}
 
--- the tables and the cell are the same
-pub record AreSameTables (s t : Tech) (cell : List ℕ) (s' t' : Tech) (cell' : List ℕ) : Type 0 where
+same_document : (bytes : List ℕ) (a b : Members) → IsDocument bytes a → IsDocument bytes b → a ≡ b
+same_document bytes a b x y = cc
+
+pub same_sizes : (target : Tech) (bytes : List ℕ) (a b : Sizes) → DescribesSizes target bytes a → DescribesSizes target bytes b → a ≡ b
+same_sizes target bytes a b x y = x.told ∙ ap (sizes_of target) (same_document bytes x.file y.file x.document y.document) ∙ sym y.told
+
+-- the tables and the sizes are the same
+pub record AreSameFiles (s t : Tech) (asked : Sizes) (s' t' : Tech) (asked' : Sizes) : Type 0 where
   pub source : s ≡ s'
   pub target : t ≡ t'
-  pub cell_is : cell ≡ cell'
+  pub sizes : asked ≡ asked'
 
-pub one_reading : (stable ttable sizes : List ℕ) (s t : Tech) (cell : List ℕ) (s' t' : Tech) (cell' : List ℕ)
-    → AreTables stable ttable sizes s t cell → AreTables stable ttable sizes s' t' cell' → AreSameTables s t cell s' t' cell'
-one_reading stable ttable sizes s t cell s' t' cell' a b = record {
-  source = same_table Source stable s s' a.source_read b.source_read;
-  target = same_table Target ttable t t' a.target_read b.target_read;
-  cell_is = same_cell sizes cell cell' a.sizes_read b.sizes_read;
-}
-
--- where the names of the masks differ, the tables aren't thin
-pub none_agrees : (stable ttable sizes : List ℕ) (s t : Tech) → IsTechOf Source stable s → IsTechOf Target ttable t → (HaveSameNames s t → ⊥)
-    → (s' t' : Tech) (cell : List ℕ) → AreTables stable ttable sizes s' t' cell → ⊥
-none_agrees stable ttable sizes s t source_read target_read not s' t' cell r =
-    let same_source = same_table Source stable s' s r.source_read source_read in
-    let same_target = same_table Target ttable t' t r.target_read target_read in
-    not (subst (λ (z : Tech). HaveSameNames z t) same_source (subst (λ (z : Tech). HaveSameNames s' z) same_target r.same_names))
+pub one_reading : (stable ttable sizes : List ℕ) (s t : Tech) (asked : Sizes) (s' t' : Tech) (asked' : Sizes)
+    → AreFiles stable ttable sizes s t asked → AreFiles stable ttable sizes s' t' asked' → AreSameFiles s t asked s' t' asked'
+one_reading stable ttable sizes s t asked s' t' asked' a b =
+    let target = same_table Target ttable t t' a.tables.target_read b.tables.target_read in
+    record {
+      source = same_table Source stable s s' a.tables.source_read b.tables.source_read;
+      target = target;
+      sizes = same_sizes t' sizes asked asked' (subst (λ (z : Tech). DescribesSizes z sizes asked) target a.sizes_read) b.sizes_read;
+    }

@@ -142,11 +142,6 @@ sides_are points d s columns l rows m r f n =
     (one_pair_of_sides s.left s.right r.left r.right _ _ columns l facts.columns n.across)
     (one_pair_of_sides s.bottom s.top r.bottom r.top _ _ rows m facts.rows n.upwards)
 
--- points that go round none of the rectangles with cells
-pub goes_not : (points : List Point) (d : Point) → (GoRound (get_or points 0 d) (get_or points 1 d) (get_or points 2 d) (get_or points 3 d) (get_or points 4 d) → ⊥)
-    → (r : Rectangle) → IsRound points r → ⊥
-goes_not points d not r f = let facts = five_round points d r f in not facts.go
-
 -- the rectangle of the sides, where it is proper
 pub found_round : (points : List Point) (d : Point) (s : Sides) (found : Option Rect) → length points ≡ 5
     → GoRound (get_or points 0 d) (get_or points 1 d) (get_or points 2 d) (get_or points 3 d) (get_or points 4 d)

@@ -3,5 +3,6 @@ pub mod Thin
 pub mod Sides
 pub mod Moved
 pub mod Answers
+pub mod Stages
 pub mod Making
 pub mod Exclusion

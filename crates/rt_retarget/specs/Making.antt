@@ -5,15 +5,16 @@ use Rattle.gds_stream.specs.declared.library.Library.{Library}
 use Rattle.gds_stream.specs.Contents.{Stream}
 use Rattle.gds_stream.specs.Written.{OneCell}
 use Rattle.rt_rows.specs.declared.row.Var.{Var}
+use Rattle.rt_sizes.specs.declared.given.Sizes.{Sizes}
 use Rattle.rt_tech.specs.declared.table.Tech.{Tech}
-use Rattle.rt_tech.specs.Tech.{IsValidTech}
+use Rattle.rt_tech.specs.Tech.{IsMeasured}
 use Rattle.rt_template.specs.declared.job.Job.{Job}
 use Rattle.rt_template.specs.Strips.{Placed}
 use Rattle.rt_template.specs.Across.{strips_of, extent_limit, IsLeastAcross}
 use Rattle.rt_template.specs.Upwards.{IsLeastUpwards}
 use Rattle.rt_template.specs.Drawing.{AreStripsOf}
 use Rattle.rt_template.specs.Separate.{AreSeparateStrips, AreOnMasksOf, extent_side_by_side}
-use Rattle.rt_retarget.specs.Thin.{AreTables, IsThinLayout}
+use Rattle.rt_retarget.specs.Thin.{AreFiles, AreBuilt, IsThinLayout}
 use Rattle.rt_carry.specs.Shapes.{IsDrawingOf}
 
 -- a job whose strips are separate, few, on masks of the target's table, and fit side by side, with valid tables
@@ -21,8 +22,8 @@ pub record IsThinJob (job : Job) : Type 0 where
   pub separate : AreSeparateStrips (strips_of job)
   pub few : length job.strips ≤ 120
   pub on_masks : AreOnMasksOf job.target (strips_of job)
-  pub source : IsValidTech job.source
-  pub target : IsValidTech job.target
+  pub source : IsMeasured job.source
+  pub target : IsMeasured job.target
   pub side_by_side : extent_side_by_side job.target (strips_of job) ≤ℤ extent_limit
 
 -- the job of a layout and two tables
@@ -43,11 +44,13 @@ pub record IsWrittenFor (job : Job) (library_name cell : List ℕ) (bytes : List
   pub stream : Stream bytes library
   pub one_cell : OneCell library flat
 
--- the tables and the sizes file are thin, and the library is the cell alone with this layout; and what follows of them
-pub record IsThinCase (stable ttable sizes : List ℕ) (library : Library) (cell : List ℕ) (source_table target_table : Tech) (layout : List Placed) : Type 0 where
-  pub tables : AreTables stable ttable sizes source_table target_table cell
-  pub laid_out : IsThinLayout library cell source_table target_table layout
-  pub source_valid : IsValidTech source_table
-  pub target_valid : IsValidTech target_table
+-- the files are read as these tables, these sizes and this library, with this layout; and what follows of them
+pub record IsThinCase (source stable ttable sizes : List ℕ) (library : Library) (asked : Sizes) (source_table target_table : Tech) (layout : List Placed) : Type 0 where
+  pub files : AreFiles stable ttable sizes source_table target_table asked
+  pub built : AreBuilt source_table asked
+  pub stream : Stream source library
+  pub laid_out : IsThinLayout library asked.cell source_table target_table layout
+  pub source_valid : IsMeasured source_table
+  pub target_valid : IsMeasured target_table
   pub on_masks : AreOnMasksOf source_table layout
   pub few : length layout ≤ 120

@@ -3,9 +3,7 @@ use Rattle.std.specs.Prelude.{◌≡◌, ℕ, ℤ, List}
 use Rattle.gds_stream.specs.declared.library.Library.{Library}
 use Rattle.gds_stream.specs.Contents.{Stream}
 use Rattle.rt_rows.specs.declared.row.Var.{Var}
-use Rattle.rt_tech.specs.declared.table.Which.TheVariants.{Source, Target}
-use Rattle.rt_tables.specs.Tables.{IsTechOf, HaveSameNames}
-use Rattle.rt_tables.specs.Sizes.{IsSizesOf}
+use Rattle.rt_sizes.specs.declared.given.Sizes.{Sizes}
 use Rattle.rt_template.specs.declared.job.Job.{Job}
 use Rattle.rt_template.specs.Strips.{Placed}
 use Rattle.rt_template.specs.Across.{strips_of, IsLeastAcross}
@@ -13,20 +11,18 @@ use Rattle.rt_template.specs.Upwards.{IsLeastUpwards}
 use Rattle.rt_template.specs.Drawing.{drawn, AreStripsOf}
 use Rattle.rt_template.specs.Rules.{BreaksNoRule, BreaksNoRuleOnGrid}
 use Rattle.rt_retarget.specs.Layout.{IsSourceLayout, IsFlatLayout}
+use Rattle.rt_retarget.specs.Thin.{AreFiles}
 
 -- the strips of the job at the positions, in database units of the target
 abbrev pub drawing_of : Job → (Var → ℤ) → List Placed
 drawing_of job at = drawn job.target.grid at (strips_of job)
 
--- what is moved: the source is a stream whose layout breaks no source rule, and the job has its strips and both tables
-pub record IsMovedJob (source stable ttable sizes cell : List ℕ) (library : Library) (job : Job) : Type 0 where
-  pub source_table : IsTechOf Source stable job.source
-  pub target_table : IsTechOf Target ttable job.target
-  pub same_masks : HaveSameNames job.source job.target
-  pub named : IsSizesOf sizes cell
+-- what is moved: the tables and the sizes file are valid, the source is a stream whose layout breaks no source rule, and the job has its strips and both tables
+pub record IsMovedJob (source stable ttable sizes : List ℕ) (asked : Sizes) (library : Library) (job : Job) : Type 0 where
+  pub files : AreFiles stable ttable sizes job.source job.target asked
   pub stream : Stream source library
   pub layout : List Placed
-  pub drawn : IsSourceLayout job.source library cell layout
+  pub drawn : IsSourceLayout job.source library asked.cell layout
   pub sound : BreaksNoRule job.source layout
   pub strips : AreStripsOf layout (strips_of job)
 
@@ -41,11 +37,11 @@ pub record IsMovedOut (out cell : List ℕ) (library : Library) (job : Job) (at 
 
 -- the bytes of out are the source, moved: its strips at the least positions that meet both templates
 pub record Moved (source stable ttable sizes out : List ℕ) : Type 0 where
-  pub cell : List ℕ
+  pub asked : Sizes
   pub library : Library
   pub job : Job
   pub at : Var → ℤ
-  pub from : IsMovedJob source stable ttable sizes cell library job
+  pub from : IsMovedJob source stable ttable sizes asked library job
   pub across : IsLeastAcross job at
   pub upwards : IsLeastUpwards job at at
-  pub to : IsMovedOut out cell library job at
+  pub to : IsMovedOut out asked.cell library job at

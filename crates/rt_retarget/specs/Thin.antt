@@ -1,25 +1,44 @@
 -- Thin input: the files that this stage of the program moves.
-use Rattle.std.specs.Prelude.{ℕ, ◌≤◌, ℤ, pos, negsuc, ◌≤ℤ◌, List, length}
+use Rattle.std.specs.Prelude.{◌≡◌, ℕ, ◌≤◌, ℤ, pos, negsuc, ◌≤ℤ◌, List, [], length, All}
 use Rattle.std.specs.List.{AllZip}
 use Rattle.rt_cells.specs.Rectangles.{Rectangle}
 use Rattle.gds_stream.specs.declared.library.Element.{Element}
 use Rattle.gds_stream.specs.declared.library.Library.{Library}
 use Rattle.gds_stream.specs.Contents.{Stream}
+use Rattle.rt_tech.specs.declared.table.Mask.{Mask}
+use Rattle.rt_tech.specs.declared.table.Role.TheVariants.{Metal}
 use Rattle.rt_tech.specs.declared.table.Tech.{Tech}
 use Rattle.rt_tech.specs.declared.table.Which.TheVariants.{Source, Target}
-use Rattle.rt_tables.specs.Tables.{IsTechOf, HaveSameNames}
-use Rattle.rt_tables.specs.Sizes.{IsSizesOf}
+use Rattle.rt_sizes.specs.declared.given.Mirror.TheVariants as mirror
+use Rattle.rt_sizes.specs.declared.given.Sizes.{Sizes}
+use Rattle.rt_tables.specs.Tables.{IsTechOf}
+use Rattle.rt_tables.specs.Forms.{HaveSameForm}
+use Rattle.rt_sizes.specs.SizesFile.{DescribesSizes}
 use Rattle.rt_template.specs.Strips.{Placed}
 use Rattle.rt_template.specs.Across.{extent_limit}
 use Rattle.rt_template.specs.Separate.{AreSeparateStrips, extent_side_by_side}
 use Rattle.rt_retarget.specs.Layout.{IsSourceItem, IsOneStructure}
 
--- both tables are of metal with widths and spaces, of the same mask names in order; and the sizes file names a cell, without a mirror
-pub record AreTables (stable ttable sizes : List ℕ) (source_table target_table : Tech) (cell : List ℕ) : Type 0 where
+-- the two files are rule tables of one form
+pub record AreTables (stable ttable : List ℕ) (source_table target_table : Tech) : Type 0 where
   pub source_read : IsTechOf Source stable source_table
   pub target_read : IsTechOf Target ttable target_table
-  pub same_names : HaveSameNames source_table target_table
-  pub sizes_read : IsSizesOf sizes cell
+  pub same_form : HaveSameForm source_table target_table
+
+-- the three files are rule tables of one form, and a sizes file for the target's
+pub record AreFiles (stable ttable sizes : List ℕ) (source_table target_table : Tech) (asked : Sizes) : Type 0 where
+  pub tables : AreTables stable ttable source_table target_table
+  pub sizes_read : DescribesSizes target_table sizes asked
+
+-- a mask of metal
+abbrev pub IsMetal : Mask → Type 0
+IsMetal mask = mask.role ≡ Metal
+
+-- what is built so far: masks of metal alone, no distances between masks, no mirror
+pub record AreBuilt (source_table : Tech) (asked : Sizes) : Type 0 where
+  pub metals : All IsMetal source_table.masks
+  pub no_aparts : source_table.aparts ≡ []
+  pub no_mirror : asked.mirror ≡ mirror.None
 
 -- the magnitude is at most 1,000,000,000 database units
 pub record IsPlaced (z : ℤ) : Type 0 where
@@ -59,9 +78,10 @@ pub record IsThinLayout (library : Library) (cell : List ℕ) (source_table targ
 pub record ThinInput (source stable ttable sizes : List ℕ) : Type 0 where
   pub source_table : Tech
   pub target_table : Tech
-  pub cell : List ℕ
+  pub asked : Sizes
   pub library : Library
   pub layout : List Placed
-  pub tables : AreTables stable ttable sizes source_table target_table cell
+  pub files : AreFiles stable ttable sizes source_table target_table asked
+  pub built : AreBuilt source_table asked
   pub stream : Stream source library
-  pub laid_out : IsThinLayout library cell source_table target_table layout
+  pub laid_out : IsThinLayout library asked.cell source_table target_table layout

@@ -1,8 +1,8 @@
 ghost use Rattle.std.specs.Prelude.{◌≡◌};
 
 use gds_stream::Cause;
-use rt_base::{Cell, List, OutOfMemory};
-use rt_tech::RuleName;
+use rt_base::{Cell, List, OutOfMemory, Text};
+use rt_tech::{RuleName, TableCause, Which};
 use thiserror::Error;
 
 /// What a retargeting gives.
@@ -20,9 +20,43 @@ pub enum Outcome {
 }
 
 /// Why a retargeting is refused.
-#[derive(Clone, Copy, Debug, PartialEq, Eq, Drop, Error)]
+#[derive(Debug, PartialEq, Eq, Drop, Error)]
 pub enum Fault {
-    /// The files aren't thin input, though the source may be a stream: what they ask for isn't built yet.
+    /// A table isn't a TOML document.
+    #[error("a table isn't TOML: {which:?}")]
+    TableToml {
+        /// Which table.
+        which: Which,
+    },
+    /// A table isn't valid: the first key at fault, in the order of the formats, and the first cause at it.
+    #[error("a table isn't valid: {which:?}, {cause:?} at {key:?}")]
+    BadTable {
+        /// Which table.
+        which: Which,
+        /// The path of the key.
+        key: Text,
+        /// What is wrong there.
+        cause: TableCause,
+    },
+    /// The two tables don't say the same but for their numbers: the first key at which they differ.
+    #[error("the tables differ at {key:?}")]
+    TablesDiffer {
+        /// The path of the key.
+        key: Text,
+    },
+    /// The sizes file isn't a TOML document.
+    #[error("the sizes file isn't TOML")]
+    SizesToml,
+    /// The sizes file isn't valid for the target's table, or has sizes for a device that the cell doesn't have: the
+    /// first key at fault and the first cause at it.
+    #[error("the sizes file isn't valid: {cause:?} at {key:?}")]
+    BadSizes {
+        /// The path of the key.
+        key: Text,
+        /// What is wrong there.
+        cause: TableCause,
+    },
+    /// The files ask for what isn't built yet.
     #[error("not built")]
     NotBuilt,
     /// The source isn't a stream of the format.
@@ -39,6 +73,8 @@ pub enum Fault {
     SourceRule {
         /// The rule.
         rule: RuleName,
+        /// The name of its mask.
+        mask: Text,
         /// One of the two cells that show it.
         p: Cell,
         /// The other cell.

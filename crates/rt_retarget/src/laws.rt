@@ -1,7 +1,7 @@
-ghost use Rattle.rt_retarget.specs.Exclusion.{DoneIsSound, DoneIsThin, NotBuiltIsNotThin, NoStreamIsAlone};
+ghost use Rattle.rt_retarget.specs.Exclusion.{DoneIsSound, DoneIsThin, StrayIsSound, StrayIsNotDone, NotBuiltIsNotThin, NoStreamIsAlone};
 
-/// A law for callers: files whose cell is moved are never refused for a broken rule, so that `SourceRule` comes
-/// exactly where the files are thin input and a rule is broken.
+/// A law for callers: files whose cell is moved are never refused for a broken rule. With `strays_are_alone`, `SourceRule`
+/// comes exactly where the files are thin input and a rule is broken, want of memory aside.
 pub fn done_is_sound()
     ensures { DoneIsSound }
 {}
@@ -12,6 +12,14 @@ pub fn done_is_thin()
     ensures { DoneIsThin }
 {}
 
+/// A law for callers: files whose sizes are for devices that aren't there are neither refused for a broken rule nor moved.
+/// So `BadSizes` for them comes exactly where the files are thin input that breaks no rule and has such sizes, want of
+/// memory aside.
+pub fn strays_are_alone()
+    ensures sound { StrayIsSound }
+    ensures not_done { StrayIsNotDone }
+{}
+
 /// A law for callers: what is refused as not built is no thin input. So `NotBuilt` and the answers for thin input exclude
 /// each other.
 pub fn not_built_is_not_thin()
@@ -19,7 +27,8 @@ pub fn not_built_is_not_thin()
 {}
 
 /// A law for callers: files whose source is no stream are neither thin input nor refused as not built. So `BadStream` comes
-/// exactly where the tables and the sizes file are thin and the source is no stream, want of memory aside.
+/// exactly where the tables and the sizes file are valid and ask for what is built, and the source is no stream, want of
+/// memory aside.
 pub fn no_stream_is_alone()
     ensures { NoStreamIsAlone }
 {}

@@ -3,7 +3,7 @@ ghost use Rattle.std.specs.List.{AllZip};
 ghost use Rattle.rt_cells.specs.Rectangles.{Rectangle, IsNonempty};
 ghost use Rattle.rt_base.specs.Plane.{area};
 ghost use Rattle.gds_stream.specs.declared.library.Element.{Element as ElementValue};
-ghost use Rattle.rt_tech.specs.Tech.{IsValidTech, pair_of};
+ghost use Rattle.rt_tech.specs.Tech.{IsMeasured, pair_of};
 ghost use Rattle.rt_template.specs.Strips.{Placed, placed};
 ghost use Rattle.rt_template.specs.Across.{extent_limit};
 ghost use Rattle.rt_template.specs.Separate.{extent_side_by_side};
@@ -36,8 +36,8 @@ pub fn lay_out(
     source: &Tech,
     target: &Tech,
 ) -> Result<Option<Vec<Strip>>, OutOfMemory>
-    requires source { IsValidTech source.now }
-    requires target { IsValidTech target.now }
+    requires source { IsMeasured source.now }
+    requires target { IsMeasured target.now }
     ensures { IfOk result (λ found. MatchOption found
         ((layout : ListValue Placed) → IsThinLayout library.now cell.now source.now target.now layout → ⊥)
         (λ strips. IsThinLayout library.now cell.now source.now target.now (map placed strips.items))) }
@@ -85,7 +85,7 @@ fn is_same_text(a: &Text, b: &Text) -> bool
 // Whether no two of the strips touch, and all fit the greatest extent side by side.
 fn are_thin(strips: &[Strip], target: &Tech) -> bool
     requires few { length strips.now ≤ 120 }
-    requires target { IsValidTech target.now }
+    requires target { IsMeasured target.now }
     ensures { MatchBool result (AreThin target.now (map placed strips.now)) (AreThin target.now (map placed strips.now) → ⊥) }
 {
     if !are_separate(strips) {
@@ -100,7 +100,7 @@ fn strips_of_elements(
     elements: &[Element],
     table: &Tech,
 ) -> Result<Option<Vec<Strip>>, OutOfMemory>
-    requires { IsValidTech table.now }
+    requires { IsMeasured table.now }
     ensures { IfOk result (λ found. MatchOption found
         ((layout : ListValue Placed) → AllZip (IsThinItem table.now) elements.now layout → ⊥)
         (λ strips. AllZip (IsThinItem table.now) elements.now (map placed strips.items))) }
@@ -117,7 +117,7 @@ fn strips_of_elements(
 
 // The element as a rectangle of a mask, or None where it isn't one.
 fn strip_of_element(element: &Element, table: &Tech) -> Option<Strip>
-    requires { IsValidTech table.now }
+    requires { IsMeasured table.now }
     ensures { MatchOption result
         ((item : Placed) → IsThinItem table.now element.now item → ⊥)
         (λ strip. IsThinItem table.now element.now (placed strip)) }
@@ -252,7 +252,7 @@ fn rect_of_sides(sides: &Sides) -> Option<Rect>
 // Whether the strips fit the greatest extent side by side, at the target's widths and spaces.
 fn fit_side_by_side(strips: &[Strip], target: &Tech) -> bool
     requires few { length strips.now ≤ 120 }
-    requires target { IsValidTech target.now }
+    requires target { IsMeasured target.now }
     ensures { MatchBool result (extent_side_by_side target.now (map placed strips.now) ≤ℤ extent_limit) (extent_side_by_side target.now (map placed strips.now) ≤ℤ extent_limit → ⊥) }
 {
     let mut sum: i64 = 0;

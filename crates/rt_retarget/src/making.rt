@@ -1,6 +1,5 @@
 ghost use Rattle.std.specs.Prelude.{◌≡◌, ◌<◌, ◌≤◌, length, map, IfOk};
-ghost use Rattle.rt_tech.specs.Tech.{IsValidTech};
-ghost use Rattle.rt_tables.specs.Tables.{HaveSameNames};
+ghost use Rattle.rt_tech.specs.Tech.{mask_count, IsMeasured};
 ghost use Rattle.rt_template.specs.Strips.{placed};
 ghost use Rattle.rt_template.specs.Separate.{AreOnMasksOf};
 ghost use Rattle.rt_retarget.specs.Thin.{AreThin};
@@ -25,9 +24,9 @@ pub fn job_of(
     requires few { length rectangles.items ≤ 120 }
     requires thin { AreThin target (map placed rectangles.items) }
     requires masks { AreOnMasksOf source (map placed rectangles.items) }
-    requires source { IsValidTech source }
-    requires target { IsValidTech target }
-    requires same_masks { HaveSameNames source target }
+    requires source { IsMeasured source }
+    requires target { IsMeasured target }
+    requires same_masks { mask_count source ≡ mask_count target }
     ensures { IfOk result (IsJobOf (map placed rectangles.items) source target) }
 {
     let strips = strips_in_order(alloc, rectangles)?;

@@ -1,5 +1,9 @@
-pub mod Entries
-pub mod Lists
-pub mod Lookups
-pub mod Readings
-pub mod Same
+pub mod Texts
+pub mod Forming
+pub mod Clear
+pub mod Limits
+pub mod ValidMasks
+pub mod Alike
+pub mod ValidRules
+pub mod ValidKinds
+pub mod Valid

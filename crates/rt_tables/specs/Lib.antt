@@ -1,4 +1,5 @@
-pub mod Document
+pub mod Forms
+pub mod Kinds
 pub mod Masks
-pub mod Sizes
+pub mod Rules
 pub mod Tables

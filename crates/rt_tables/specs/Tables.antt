@@ -1,52 +1,143 @@
--- Which rule table a file is: a thin one, with masks alone.
-use Rattle.std.specs.Prelude.{◌≡◌, ℕ, ◌≤◌, ℤ, pos, List, [], ◌∷◌, length, AllPairs, map, Some, Ok, codes}
+-- Rule tables as documents: the first fault of one, and the table that one without a fault is.
+use Rattle.std.specs.Prelude.{◌≡◌, ℕ, ℤ, pos, negsuc, Bool, not, ◌&&◌, ◌||◌, nat_le, List, [], ◌∷◌, Option, Some, None, is_some, is_ok, Result, Ok, Err, codes, bytes_eq}
 use Rattle.hex.specs.Hex.{decode_sized}
-use Rattle.toml.specs.Data.{Members, Items}
+use Rattle.toml.specs.Data.{Data, Members, Items, as_str, as_array}
 use Rattle.rt_tech.specs.declared.table.Mask.{Mask}
 use Rattle.rt_tech.specs.declared.table.Tech.{Tech}
 use Rattle.rt_tech.specs.declared.table.Which.{Which}
-use Rattle.rt_tech.specs.Tech.{IsGrid, AreApart}
-use Rattle.rt_tables.specs.Document.{IsDocument, HasExactly, string_at, integer_at, array_at}
-use Rattle.rt_tables.specs.Masks.{AreMaskEntries}
+use Rattle.rt_tech.specs.declared.table.TableCause.TheVariants.{Missing, Form, Range}
+use Rattle.rt_keys.specs.declared.stop.Fault.{Fault}
+use Rattle.rt_tables.specs.declared.rules.Rules.{Rules}
+use Rattle.rt_keys.specs.declared.error.TableError.{TableError}
+use Rattle.rt_keys.specs.declared.error.TableError.TheVariants.{BadToml, BadTable, TablesDiffer, BadSizes, OutOfMemory}
+use Rattle.rt_keys.specs.Answers.{NamesTableFault}
+use Rattle.rt_keys.specs.Document.{IsDocument, has, word, number, list, as_list, count, entries_of}
+use Rattle.rt_keys.specs.Faults.{◌or_else◌, test, test_here, within, wanted, unwanted, allowed, others, each}
+use Rattle.rt_tables.specs.Kinds.{kinds_fault, kinds_of}
+use Rattle.rt_tables.specs.Masks.{mask_fault, mask_of}
+use Rattle.rt_keys.specs.Numbers.{Measure, number_fault, pair_fault, pair_of}
+use Rattle.rt_tables.specs.Rules.{encloses_fault, encloses_of, channel_fault, gates_of, aparts_fault, aparts_of}
+pub use Rattle.rt_tech.specs.Words.{come_together}
 
--- the keys of a thin table
+-- the keys of a table, in the order in which they are read
 abbrev pub table_keys : List (List ℕ)
-table_keys = codes "version" ∷ codes "grid" ∷ codes "units" ∷ codes "mask" ∷ []
+table_keys = codes "version" ∷ codes "grid" ∷ codes "units" ∷ codes "unlisted" ∷ codes "ignore" ∷ codes "mask" ∷ codes "enclose" ∷ codes "channel" ∷ codes "apart" ∷ codes "kind" ∷ []
 
--- `units` holds 16 bytes as 32 hexadecimal digits of either case
-pub record HasUnits (members : Members) (units : List ℕ) : Type 0 where
-  pub digits : List ℕ
-  pub stands : string_at (codes "units") members ≡ Some digits
-  pub decoded : decode_sized digits 16 ≡ Ok units
+-- how the lengths of a document are written
+abbrev pub measure_in : Which → Members → Measure
+measure_in which doc = record { which = which; grid = number (codes "grid") doc }
 
--- `mask` holds the entries of these masks, 1 to 64, which differ in name and in layer pair
-pub record HasMasks (which : Which) (grid : ℤ) (members : Members) (masks : List Mask) : Type 0 where
-  pub values : Items
-  pub stands : array_at (codes "mask") members ≡ Some values
-  pub entries : AreMaskEntries which grid values masks
-  pub some_masks : 1 ≤ length masks
-  pub few_masks : length masks ≤ 64
-  pub apart : AllPairs AreApart masks
+-- units: 32 hexadecimal digits of either case, which are 16 bytes
+abbrev pub is_units : List ℕ → Bool
+is_units digits = is_ok (decode_sized digits 16)
 
--- a document of these members is this table
-pub record DescribesTech (which : Which) (members : Members) (tech : Tech) : Type 0 where
-  pub keys : HasExactly table_keys members
-  pub version : integer_at (codes "version") members ≡ Some (pos 1)
-  pub grid : integer_at (codes "grid") members ≡ Some tech.grid
-  pub grid_in_range : IsGrid tech.grid
-  pub units : HasUnits members tech.units
-  pub masks : HasMasks which tech.grid members tech.masks
+abbrev pub bytes_of : {E : Type 0} → Result (List ℕ) E → List ℕ
+bytes_of (Ok bytes) = bytes
+bytes_of (Err e) = []
 
--- the bytes are this table
+abbrev pub units_of : List ℕ → List ℕ
+units_of digits = bytes_of (decode_sized digits 16)
+
+unfoldable pub units_fault : Members → Option Fault
+units_fault doc = wanted as_str (codes "units") doc or_else test (codes "units") Range (is_units (word (codes "units") doc))
+
+-- unlisted: it may be there, as "refuse" or "ignore"
+unfoldable pub unlisted_fault : Members → Option Fault
+unlisted_fault doc =
+    allowed as_str (codes "unlisted") doc
+    or_else test (codes "unlisted") Range (not (has (codes "unlisted") doc) || bytes_eq (word (codes "unlisted") doc) (codes "refuse") || bytes_eq (word (codes "unlisted") doc) (codes "ignore"))
+
+-- ignore: it may be there, as a list of pairs
+unfoldable pub ignored_fault : Data → Option Fault
+ignored_fault value = test_here Form (is_some (as_array value)) or_else pair_fault (negsuc 32767) (negsuc 0) (as_list value)
+
+unfoldable pub ignored_of : Data → ℤ × ℤ
+ignored_of value = pair_of (as_list value)
+
+unfoldable pub ignore_fault : Members → Option Fault
+ignore_fault doc =
+    allowed as_array (codes "ignore") doc
+    or_else within (codes "ignore") (each (λ before. ignored_fault) ignored_of [] (list (codes "ignore") doc))
+
+abbrev pub ignored_in : Members → List (ℤ × ℤ)
+ignored_in doc = entries_of ignored_of (list (codes "ignore") doc)
+
+-- mask: it has to be there, with 1 to 64 entries, a gate exactly where an active is
+abbrev pub masks_of : Measure → Items → List Mask
+masks_of measure values = entries_of (mask_of measure values) values
+
+unfoldable pub masks_listed : Measure → List (ℤ × ℤ) → Items → Option Fault
+masks_listed measure ignored values =
+    within (codes "mask") (each (mask_fault measure values ignored) (mask_of measure values) [] values)
+    or_else test (codes "mask") Missing (come_together (masks_of measure values))
+    or_else test (codes "mask") Range (nat_le 1 (count values) && nat_le (count values) 64)
+
+abbrev pub masks_in : Which → Members → List Mask
+masks_in which doc = masks_of (measure_in which doc) (list (codes "mask") doc)
+
+-- the keys after the masks, one after another, then those that no rule names
+unfoldable pub rules_fault : Measure → Items → List Mask → Members → Option Fault
+rules_fault measure names masks doc =
+    encloses_fault measure names masks doc
+    or_else channel_fault measure masks doc
+    or_else aparts_fault measure names masks doc
+    or_else kinds_fault measure names masks doc
+    or_else unwanted (codes "resistor") doc
+    or_else others table_keys doc
+
+-- what a document says after its masks
+pub record AreRules (measure : Measure) (names : Items) (masks : List Mask) (doc : Members) (rules : Rules) : Type 0 where
+  pub encloses : rules.encloses ≡ encloses_of measure names doc
+  pub gates : rules.gates ≡ gates_of measure masks doc
+  pub aparts : rules.aparts ≡ aparts_of measure names masks doc
+  pub kinds : rules.kinds ≡ kinds_of measure names masks doc
+
+-- the keys of a table one after another
+unfoldable pub tech_fault : Which → Members → Option Fault
+tech_fault which doc =
+    number_fault (pos 1) (pos 1) (codes "version") doc
+    or_else number_fault (pos 1) (pos 100) (codes "grid") doc
+    or_else units_fault doc
+    or_else unlisted_fault doc
+    or_else ignore_fault doc
+    or_else wanted as_array (codes "mask") doc
+    or_else masks_listed (measure_in which doc) (ignored_in doc) (list (codes "mask") doc)
+    or_else rules_fault (measure_in which doc) (list (codes "mask") doc) (masks_in which doc) doc
+
+-- the table that a document is
+unfoldable pub tech_in : Which → Members → Tech
+tech_in which doc = record {
+  grid = number (codes "grid") doc;
+  units = units_of (word (codes "units") doc);
+  masks = masks_in which doc;
+  encloses = encloses_of (measure_in which doc) (list (codes "mask") doc) doc;
+  gates = gates_of (measure_in which doc) (masks_in which doc) doc;
+  aparts = aparts_of (measure_in which doc) (list (codes "mask") doc) (masks_in which doc) doc;
+  kinds = kinds_of (measure_in which doc) (list (codes "mask") doc) (masks_in which doc) doc;
+  ignored = ignored_in doc;
+  drop_unlisted = bytes_eq (word (codes "unlisted") doc) (codes "ignore");
+}
+
+-- the bytes are this table: a document without a fault, and what it says
 pub record IsTechOf (which : Which) (bytes : List ℕ) (tech : Tech) : Type 0 where
   pub members : Members
   pub document : IsDocument bytes members
-  pub describes : DescribesTech which members tech
+  pub no_fault : tech_fault which members ≡ None
+  pub says : tech ≡ tech_in which members
 
--- the names of the masks, in order
-abbrev pub names_of_masks : List Mask → List (List ℕ)
-names_of_masks masks = map (λ mask. mask.name) masks
+-- the bytes are a document with this first fault
+pub record HasTableFault (which : Which) (bytes : List ℕ) (error : TableError) : Type 0 where
+  pub members : Members
+  pub document : IsDocument bytes members
+  pub fault : Fault
+  pub first : tech_fault which members ≡ Some fault
+  pub named : NamesTableFault fault error
 
--- the two tables have the same mask names in order
-abbrev pub HaveSameNames : Tech → Tech → Type 0
-HaveSameNames source target = names_of_masks source.masks ≡ names_of_masks target.masks
+-- what the reading of a table answers
+abbrev pub IsTechAnswer : Which → List ℕ → Result Tech TableError → Type 0
+IsTechAnswer which bytes (Ok tech) = IsTechOf which bytes tech
+IsTechAnswer which bytes (Err BadToml) = (members : Members) → IsDocument bytes members → ⊥
+IsTechAnswer which bytes (Err (BadTable key cause)) = HasTableFault which bytes (BadTable key cause)
+IsTechAnswer which bytes (Err (TablesDiffer key)) = ⊥
+IsTechAnswer which bytes (Err (BadSizes key cause)) = ⊥
+IsTechAnswer which bytes (Err OutOfMemory) = Unit {0}

@@ -1,15 +1,21 @@
-//! Reading of rule tables and of sizes files, TOML documents. Today only thin ones are read: tables of metal masks
-//! alone, and sizes files that name a cell.
+//! Reading of rule tables, TOML documents, and the comparison of their forms.
 #![tactic(auto)]
 
-mod document;
+mod comparing;
+mod context;
+mod form_laws;
+#[cfg(test)]
+mod form_tests;
+mod forms;
+mod kinds;
 mod laws;
 mod masks;
-mod sizes;
+mod rules;
 mod tables;
 #[cfg(test)]
 mod tests;
 
-pub use laws::{a_table_read_is_valid, one_cell_is_read, one_table_is_read};
-pub use sizes::read_thin_sizes;
-pub use tables::{read_thin_tech, same_masks};
+pub use form_laws::tables_of_one_form_agree;
+pub use forms::same_form;
+pub use laws::{a_table_has_no_fault, a_table_read_is_valid, one_table_is_read};
+pub use tables::read_tech;

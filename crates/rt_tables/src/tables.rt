@@ -1,152 +1,216 @@
-ghost use Rattle.std.specs.Prelude.{◌≡◌, ◌≢◌, ℕ, ◌≤◌, ℤ, Some, List as ListValue, length, MatchOption, MatchBool, IfOk, AllPairs, codes};
-ghost use Rattle.toml.specs.View.{table_view, items_view};
-ghost use Rattle.rt_tech.specs.declared.table.Mask.{Mask};
-ghost use Rattle.rt_tech.specs.declared.table.Tech.{Tech};
-ghost use Rattle.rt_tech.specs.Tech.{IsGrid, AreApart};
-ghost use Rattle.rt_tables.specs.Document.{integer_at};
-ghost use Rattle.rt_tables.specs.Masks.{AreMaskEntries};
-ghost use Rattle.rt_tables.specs.Tables.{HasUnits, HasMasks, DescribesTech, IsTechOf, HaveSameNames, names_of_masks};
+ghost use Rattle.std.specs.Prelude.{◌≡◌, ℕ, ℤ, pos, codes, bytes_eq, ◌≤◌, length as count_of};
+ghost use Rattle.toml.specs.View.{view, table_view, items_view, array_view};
+ghost use Rattle.rt_tech.specs.Tech.{IsGrid};
+ghost use Rattle.rt_keys.specs.Document.{word as word_at, list as list_at, number as number_at};
+ghost use Rattle.rt_keys.specs.Faults.{Reads};
+ghost use Rattle.rt_keys.specs.Numbers.{number_fault, measure_of};
+ghost use Rattle.rt_tables.specs.Tables.{is_units, units_of, units_fault, unlisted_fault, ignored_fault, ignored_of, ignore_fault, ignored_in, come_together as come_together_of, masks_of, masks_listed as masks_listed_fault, rules_fault, measure_in, tech_fault, tech_in, AreRules, IsTechAnswer};
 
-use crate::document::{array, document, integer, key_count, string};
-use crate::masks::{is_apart, mask_of};
+use crate::context::Masks;
+use crate::kinds::kinds;
+use crate::masks::{MaskRule, has_role};
+use crate::rules::{Rules, aparts, encloses, gates};
 use hex::FromHex;
-use rt_base::{List, OutOfMemory};
-use rt_tech::{Mask, Tech, Which};
+use rt_base::List;
+use rt_keys::TableError;
+use rt_keys::entries::{Entry, entries};
+use rt_keys::finding::names;
+use rt_keys::keys::{
+    document, entry_list, has, list, others, unwanted, values_if_there, word, word_if_there,
+};
+use rt_keys::names::Names;
+use rt_keys::numbers::{count, number_within, pair};
+use rt_keys::scale::Scale;
+use rt_keys::stop::{Stop, at, bad_table, refused, tested};
+use rt_tech::{Apart, Enclose, Gates, Kind, Mask, Role, TableCause, Tech, Which};
 use std::alloc::Global;
 use toml::{Table, Value};
 
-/// The rule table that the bytes are, where they are a thin one: TOML with the keys `version` (1), `grid` (1 to 100),
-/// `units` (32 hexadecimal digits) and `mask` (1 to 64 entries), and no others. An entry has the keys `name`, `role`
-/// ("metal"), `layer`, `datatype`, `width` and `space`, and no others. A target table's widths and spaces are
-/// multiples of grid, and are kept in steps. None where the bytes are no such file.
-pub fn read_thin_tech(
-    alloc: Global,
-    bytes: &[u8],
-    which: Which,
-) -> Result<Option<Tech>, OutOfMemory>
-    ensures { IfOk result (λ o. MatchOption o ((t : Tech) → IsTechOf which bytes.now t → ⊥) (λ t. IsTechOf which bytes.now t)) }
-{
-    match document(alloc, bytes)? {
-        Some(table) => tech_of(alloc, &table, which),
-        None => Ok(None),
-    }
-}
+// The keys of a table.
+const TABLE_KEYS: [&str; 10] = [
+    "version", "grid", "units", "unlisted", "ignore", "mask", "enclose", "channel", "apart", "kind",
+];
 
-// The table that a document describes.
-fn tech_of(alloc: Global, table: &Table, which: Which) -> Result<Option<Tech>, OutOfMemory>
-    ensures { IfOk result (λ o. MatchOption o ((t : Tech) → DescribesTech which (table_view table.now) t → ⊥) (λ t. DescribesTech which (table_view table.now) t)) }
+/// The rule table that the bytes are: a TOML document that keeps every rule of a table. A source table's lengths are
+/// kept as they are, and a target table's in steps.
+///
+/// # Errors
+///
+/// `BadToml` exactly where the bytes aren't a TOML document. `BadTable` where a key is at fault: the first key in the
+/// order in which a table is read, with the first cause at it. `OutOfMemory` where there is no memory.
+pub fn read_tech(alloc: Global, bytes: &[u8], which: Which) -> Result<Tech, TableError>
+    ensures { IsTechAnswer which bytes.now result }
 {
-    if key_count(table) != 4 || integer(table, "version") != Some(1) {
-        return Ok(None);
+    match document(alloc, bytes) {
+        Ok(Some(table)) => match tech(alloc, &table, which) {
+            Ok(tech) => Ok(tech),
+            Err(stop) => Err(bad_table(alloc, stop)),
+        },
+        Ok(None) => Err(TableError::BadToml),
+        Err(_) => Err(TableError::OutOfMemory),
     }
-    let Some(grid) = grid_at(table) else {
-        return Ok(None);
-    };
-    let Some(units) = units_at(table) else {
-        return Ok(None);
-    };
-    let Some(masks) = masks_at(alloc, table, which, grid)? else {
-        return Ok(None);
-    };
-    Ok(Some(Tech { grid, units, masks }))
 }
 
 // The grid of a document.
-fn grid_at(table: &Table) -> Option<i64>
-    ensures { MatchOption result ((grid : ℤ) → integer_at (codes "grid") (table_view table.now) ≡ Some grid → IsGrid grid → ⊥) (λ grid. (integer_at (codes "grid") (table_view table.now) ≡ Some grid) × IsGrid grid) }
+fn grid(alloc: Global, table: &Table) -> Result<i64, Stop>
+    ensures { Reads result (number_fault (pos 1) (pos 100) (codes "grid") (table_view table.now)) (λ n. (n ≡ number_at (codes "grid") (table_view table.now)) × IsGrid n) }
 {
-    let Some(grid) = integer(table, "grid") else {
-        return None;
-    };
-    if 1 <= grid && grid <= 100 {
-        Some(grid)
-    } else {
-        None
-    }
+    let grid = number_within(alloc, table, "grid", 1, 100)?;
+    Ok(grid)
 }
 
 // The units of a document.
-fn units_at(table: &Table) -> Option<[u8; 16]>
-    ensures { MatchOption result ((units : ListValue ℕ) → HasUnits (table_view table.now) units → ⊥) (λ units. HasUnits (table_view table.now) units) }
+#[tactic(auto, unfolding(crate::specs::Tables::units_fault))]
+fn units(alloc: Global, table: &Table) -> Result<[u8; 16], Stop>
+    ensures { Reads result (units_fault (table_view table.now)) (λ u. u ≡ units_of (word_at (codes "units") (table_view table.now))) }
 {
-    let Some(digits) = string(table, "units") else {
-        return None;
-    };
+    let digits = word(alloc, table, "units")?;
     match <[u8; 16] as FromHex>::from_hex(digits) {
-        Ok(units) => Some(units),
-        Err(_) => None,
+        Ok(units) => Ok(units),
+        Err(_) => Err(refused(alloc, "units", TableCause::Range)),
     }
 }
 
-// The masks of a document.
-fn masks_at(
-    alloc: Global,
-    table: &Table,
-    which: Which,
-    grid: i64,
-) -> Result<Option<List<Mask>>, OutOfMemory>
-    requires { IsGrid grid }
-    ensures { IfOk result (λ o. MatchOption o ((masks : ListValue Mask) → HasMasks which grid (table_view table.now) masks → ⊥) (λ masks. HasMasks which grid (table_view table.now) masks)) }
+// Whether a document passes over the layer pairs that it doesn't name.
+#[tactic(auto, unfolding(crate::specs::Tables::unlisted_fault))]
+fn drop_unlisted(alloc: Global, table: &Table) -> Result<bool, Stop>
+    ensures { Reads result (unlisted_fault (table_view table.now)) (λ b. b ≡ bytes_eq (word_at (codes "unlisted") (table_view table.now)) (codes "ignore")) }
 {
-    let Some(values) = array(table, "mask") else {
-        return Ok(None);
+    match word_if_there(alloc, table, "unlisted")? {
+        None => Ok(false),
+        Some(word) => {
+            let is_allowed = word == "refuse" || word == "ignore";
+            tested(alloc, "unlisted", TableCause::Range, is_allowed)?;
+            Ok(word == "ignore")
+        }
+    }
+}
+
+// How an entry of the ignored pairs is read.
+#[derive(Drop)]
+struct IgnoredRule;
+
+impl Entry for IgnoredRule {
+    type Item = (i16, i16);
+
+    ghost fault = { λ rule before. ignored_fault };
+
+    ghost gives = { λ rule. ignored_of };
+
+    #[tactic(auto, unfolding(crate::specs::Tables::ignored_fault, crate::specs::Tables::ignored_of))]
+    fn read(&self, alloc: Global, _: &[(i16, i16)], value: &Value) -> Result<(i16, i16), Stop> {
+        let values = entry_list(alloc, value)?.as_slice();
+        let pair = pair(alloc, values, &(-32768, -1))?;
+        Ok(pair)
+    }
+}
+
+// The ignored pairs of a document.
+#[tactic(auto, unfolding(crate::specs::Tables::ignore_fault))]
+fn ignored(alloc: Global, table: &Table) -> Result<List<(i16, i16)>, Stop>
+    ensures { Reads result (ignore_fault (table_view table.now)) (λ ps. ps ≡ ignored_in (table_view table.now)) }
+{
+    let values = values_if_there(alloc, table, "ignore")?;
+    let ignored = at(alloc, "ignore", entries(alloc, &IgnoredRule, values))?;
+    Ok(ignored)
+}
+
+// Whether the masks have a gate exactly where they have an active.
+fn come_together(masks: &[Mask]) -> bool
+    ensures { result ≡ come_together_of masks.now }
+{
+    if has_role(masks, Role::Gate) {
+        has_role(masks, Role::Active)
+    } else {
+        !has_role(masks, Role::Active)
+    }
+}
+
+// The masks of a document, by the entries of their list.
+#[tactic(auto, unfolding(crate::specs::Tables::masks_listed), using(rt_keys::proofs::Lookups::count_of_entries))]
+fn masks_listed(
+    alloc: Global,
+    names: &Names,
+    scale: &Scale,
+    ignored: &[(i16, i16)],
+) -> Result<List<Mask>, Stop>
+    ensures { Reads result (masks_listed_fault (measure_of scale.now) ignored.now (items_view names.now.values.now)) (λ ms. (ms ≡ masks_of (measure_of scale.now) (items_view names.now.values.now)) × (count_of ms ≤ 64)) }
+{
+    let rule = MaskRule {
+        names,
+        scale,
+        ignored,
     };
-    if values.len() < 1 || values.len() > 64 {
-        return Ok(None);
-    }
-    masks_of(alloc, values.as_slice(), which, grid)
+    let masks = at(alloc, "mask", entries(alloc, &rule, names.values))?;
+    let come_together = come_together(masks.as_slice());
+    tested(alloc, "mask", TableCause::Missing, come_together)?;
+    let is_allowed = 1 <= count(names.values) && count(names.values) <= 64;
+    tested(alloc, "mask", TableCause::Range, is_allowed)?;
+    Ok(masks)
 }
 
-// The masks of a list of entries, unless two of them aren't apart.
-fn masks_of(
+// What a document says after its masks.
+#[tactic(auto, unfolding(crate::specs::Tables::rules_fault))]
+fn rules_after(alloc: Global, masks: &Masks, table: &Table) -> Result<Rules, Stop>
+    ensures { Reads result (rules_fault (measure_of masks.now.scale.now) (items_view masks.now.names.now.values.now) masks.now.masks.now (table_view table.now)) (AreRules (measure_of masks.now.scale.now) (items_view masks.now.names.now.values.now) masks.now.masks.now (table_view table.now)) }
+{
+    let encloses = encloses(alloc, masks, table)?;
+    let gates = gates(alloc, masks, table)?;
+    let aparts = aparts(alloc, masks, table)?;
+    let kinds = kinds(alloc, masks, table)?;
+    unwanted(alloc, table, "resistor")?;
+    others(alloc, table, &TABLE_KEYS)?;
+    Ok(Rules {
+        encloses,
+        gates,
+        aparts,
+        kinds,
+    })
+}
+
+// What a document says after these masks.
+fn rules_with(
     alloc: Global,
-    values: &[Value],
-    which: Which,
-    grid: i64,
-) -> Result<Option<List<Mask>>, OutOfMemory>
-    requires { IsGrid grid }
-    ensures { IfOk result (λ o. MatchOption o
-        ((masks : ListValue Mask) → AreMaskEntries which grid (items_view values.now) masks → AllPairs AreApart masks → ⊥)
-        (λ masks. AreMaskEntries which grid (items_view values.now) masks × AllPairs AreApart masks)) }
+    names: &Names,
+    masks: &[Mask],
+    scale: &Scale,
+    table: &Table,
+) -> Result<Rules, Stop>
+    requires { count_of masks.now ≤ 64 }
+    ensures { Reads result (rules_fault (measure_of scale.now) (items_view names.now.values.now) masks.now (table_view table.now)) (AreRules (measure_of scale.now) (items_view names.now.values.now) masks.now (table_view table.now)) }
 {
-    let mut masks = List::new(alloc);
-    for value in values {
-        let Some(mask) = mask_of(alloc, value, which, grid)? else {
-            return Ok(None);
-        };
-        if !is_apart(masks.as_slice(), &mask) {
-            return Ok(None);
-        }
-        masks.push(mask)?;
-    }
-    Ok(Some(masks))
+    let masks = Masks {
+        names,
+        masks,
+        scale,
+    };
+    rules_after(alloc, &masks, table)
 }
 
-/// Whether the two tables have the same mask names in order.
-pub fn same_masks(source: &Tech, target: &Tech) -> bool
-    ensures { MatchBool result (HaveSameNames source.now target.now) (¬ HaveSameNames source.now target.now) }
+// The table that a document is.
+#[tactic(auto, unfolding(crate::specs::Tables::tech_fault, crate::specs::Tables::tech_in))]
+fn tech(alloc: Global, table: &Table, which: Which) -> Result<Tech, Stop>
+    ensures { Reads result (tech_fault which (table_view table.now)) (λ t. t ≡ tech_in which (table_view table.now)) }
 {
-    have_same_names(source.masks.as_slice(), target.masks.as_slice())
-}
-
-// Whether the masks have the same names in order.
-fn have_same_names(source: &[Mask], target: &[Mask]) -> bool
-    ensures { MatchBool result (names_of_masks source.now ≡ names_of_masks target.now) (¬ (names_of_masks source.now ≡ names_of_masks target.now)) }
-{
-    if source.len() != target.len() {
-        return false;
-    }
-    for i in 0..source.len() {
-        if !have_same_name(&source[i], &target[i]) {
-            return false;
-        }
-    }
-    true
-}
-
-// Whether the two masks have the same name.
-fn have_same_name(a: &Mask, b: &Mask) -> bool
-    ensures { MatchBool result (a.now.name ≡ b.now.name) (a.now.name ≢ b.now.name) }
-{
-    a.name.as_slice() == b.name.as_slice()
+    number_within(alloc, table, "version", 1, 1)?;
+    let grid = grid(alloc, table)?;
+    let units = units(alloc, table)?;
+    let drop_unlisted = drop_unlisted(alloc, table)?;
+    let ignored = ignored(alloc, table)?;
+    let values = list(alloc, table, "mask")?.as_slice();
+    let names = names(alloc, values)?;
+    let scale = Scale { which, grid };
+    let masks = masks_listed(alloc, &names, &scale, ignored.as_slice())?;
+    let rules = rules_with(alloc, &names, masks.as_slice(), &scale, table)?;
+    Ok(Tech {
+        grid,
+        units,
+        masks,
+        encloses: rules.encloses,
+        gates: rules.gates,
+        aparts: rules.aparts,
+        kinds: rules.kinds,
+        ignored,
+        drop_unlisted,
+    })
 }

@@ -7,4 +7,4 @@ mod table;
 
 pub use numbers::{space_of, width_of};
 pub use rules::{RuleError, RuleName};
-pub use table::{Mask, Tech, Which};
+pub use table::{Apart, Enclose, Gates, Kind, Mask, Near, Role, TableCause, Tech, Which};

@@ -4,6 +4,8 @@ use Rattle.rt_cli.proofs.Refused.{refusal_of_lists}
 use Rattle.rt_cli.proofs.running.move_cell.Goals as goal
 
 pub returns-in-Err-clause-says : goal.returns-in-Err-clause-says
-returns-in-Err-clause-says g c =
-    rw c.refusal.ensures (refusal_of_lists (contents_in c.args.files.now) _ _ _ _ c.args.out.now _ _ _ _ c.in-Err.fault
-    c.deref.ensures.value c.deref-2.ensures.value c.deref-3.ensures.value c.deref-4.ensures.value c.in-Err.ensures.refused refl)
+returns-in-Err-clause-says g c = (
+  refusal_of_lists (contents_in c.args.files.now) _ _ _ _ c.in-Err.fault
+      c.deref.ensures.value c.deref-2.ensures.value c.deref-3.ensures.value c.deref-4.ensures.value c.in-Err.ensures.refused,
+  refl,
+)

@@ -1,0 +1,100 @@
+ghost use Rattle.std.specs.Prelude.{◌≡◌, ◌≤◌, [], MatchBool};
+ghost use Rattle.rt_lines.specs.Saying.{SaysLine};
+ghost use Rattle.rt_cli.specs.Answers.{line_of, line_of_refusal};
+
+use crate::answer::Answer;
+use rt_desk::{Desk, DeskError};
+use rt_lines::{
+    BrokenRule, say_bad_stream, say_not_built, say_pieces, say_sizes_fault, say_sizes_not_toml,
+    say_source_rule, say_table_fault, say_table_not_toml, say_tables_differ, say_unfetched,
+    say_usage,
+};
+use rt_retarget::Fault;
+
+/// Whether an answer has a line: all have but that OUT was stored, that it wasn't, and want of memory.
+pub fn has_line(answer: &Answer<'_>) -> bool
+    ensures { MatchBool result (line_of answer.now ≡ [] → ⊥) (line_of answer.now ≡ []) }
+{
+    match answer {
+        Answer::Usage => true,
+        Answer::Refused(fault) => refusal_has_line(fault),
+        Answer::NotFetched(unfetched) => unfetched.error != DeskError::OutOfMemory,
+        Answer::Done | Answer::NotStored | Answer::OutOfMemory => false,
+    }
+}
+
+// Whether a refusal has a line: all have but want of memory.
+fn refusal_has_line(fault: &Fault) -> bool
+    ensures { MatchBool result (line_of_refusal fault.now ≡ [] → ⊥) (line_of_refusal fault.now ≡ []) }
+{
+    match fault {
+        Fault::OutOfMemory => false,
+        _ => true,
+    }
+}
+
+/// Says the line of an answer, or nothing where it has none: where OUT was stored, or wasn't, or there was no memory.
+/// Errors are those of a say: `Failed` only where the count of faults rose, `OutOfMemory`; then a first part was said.
+pub fn say_answer<D: Desk>(answer: &Answer<'_>, desk: &mut D) -> Result<(), DeskError>
+    ensures line { SaysLine (D.said desk.old) (D.said desk.new) (D.say_faults desk.old) (D.say_faults desk.new) (line_of answer.now) result }
+    ensures files_stay { D.files desk.new ≡ D.files desk.old }
+    ensures count { D.say_faults desk.old ≤ D.say_faults desk.new }
+    ensures fetch_count { D.fetch_faults desk.new ≡ D.fetch_faults desk.old }
+    ensures store_count { D.store_faults desk.new ≡ D.store_faults desk.old }
+{
+    match answer {
+        Answer::Usage => say_usage(desk),
+        Answer::Refused(fault) => say_refusal(fault, desk),
+        Answer::NotFetched(unfetched) => say_unfetched(desk, &unfetched.error, unfetched.name),
+        Answer::Done | Answer::NotStored | Answer::OutOfMemory => say_nothing(desk),
+    }
+}
+
+// Says the line of a refusal.
+fn say_refusal<D: Desk>(fault: &Fault, desk: &mut D) -> Result<(), DeskError>
+    ensures line { SaysLine (D.said desk.old) (D.said desk.new) (D.say_faults desk.old) (D.say_faults desk.new) (line_of_refusal fault.now) result }
+    ensures files_stay { D.files desk.new ≡ D.files desk.old }
+    ensures count { D.say_faults desk.old ≤ D.say_faults desk.new }
+    ensures fetch_count { D.fetch_faults desk.new ≡ D.fetch_faults desk.old }
+    ensures store_count { D.store_faults desk.new ≡ D.store_faults desk.old }
+{
+    match fault {
+        Fault::TableToml { which } => say_table_not_toml(desk, which),
+        Fault::BadTable { which, key, cause } => say_table_fault(desk, which, key, cause),
+        Fault::TablesDiffer { key } => say_tables_differ(desk, key),
+        Fault::SizesToml => say_sizes_not_toml(desk),
+        Fault::BadSizes { key, cause } => say_sizes_fault(desk, key, cause),
+        Fault::BadStream { offset, cause } => say_bad_stream(desk, *offset, cause),
+        Fault::SourceRule {
+            rule,
+            mask,
+            p,
+            q,
+            found,
+            needed,
+        } => say_source_rule(
+            desk,
+            &BrokenRule {
+                rule: *rule,
+                mask,
+                p: *p,
+                q: *q,
+                found: *found,
+                needed: *needed,
+            },
+        ),
+        Fault::NotBuilt => say_not_built(desk),
+        Fault::OutOfMemory => say_nothing(desk),
+    }
+}
+
+// Says nothing.
+fn say_nothing<D: Desk>(desk: &mut D) -> Result<(), DeskError>
+    ensures line { SaysLine (D.said desk.old) (D.said desk.new) (D.say_faults desk.old) (D.say_faults desk.new) [] result }
+    ensures files_stay { D.files desk.new ≡ D.files desk.old }
+    ensures count { D.say_faults desk.old ≤ D.say_faults desk.new }
+    ensures fetch_count { D.fetch_faults desk.new ≡ D.fetch_faults desk.old }
+    ensures store_count { D.store_faults desk.new ≡ D.store_faults desk.old }
+{
+    say_pieces(desk, &[])
+}

@@ -1,0 +1,73 @@
+ghost use Rattle.std.specs.Prelude.{◌≡◌, ℕ, nat_eq, None};
+ghost use Rattle.indexmap.specs.IndexMap.{get};
+ghost use Rattle.toml.specs.View.{view, items_view};
+ghost use Rattle.rt_keys.specs.Faults.{Reads};
+ghost use Rattle.rt_keys.specs.Indexes.{as_index as as_index_of, index_of as index_at, indexed};
+
+use crate::keys::member;
+use crate::stop::Stop;
+use indexmap::IndexMap;
+use std::alloc::Global;
+use toml::Value;
+
+/// The entries of a list by their indexes: each index with the number of the first entry that has it.
+#[derive(Drop)]
+pub struct Indexes<'a> {
+    /// The numbers by the indexes.
+    pub numbers: IndexMap<u32, u32>,
+    /// The list.
+    pub values: &'a [Value],
+    ghost first: { (index : ℕ) → get nat_eq numbers index ≡ indexed index (items_view values.now) },
+}
+
+// The number as an index, where it may be one.
+fn as_index(number: i64) -> Option<u32>
+    ensures { result ≡ as_index_of number }
+{
+    if 0 <= number && number <= 4_294_967_295 {
+        Some(number as u32)
+    } else {
+        None
+    }
+}
+
+// The index of an entry, where it has one.
+fn index_of(value: &Value) -> Option<u32>
+    ensures { result ≡ index_at (view value.now) }
+{
+    match member(value.as_table()?, "index") {
+        Some(index) => as_index(index.as_integer()?),
+        None => None,
+    }
+}
+
+/// The entries of a list by their indexes, which stand at their keys `index`. What has no index from 0 to
+/// 4,294,967,295 is passed over. No entry is at fault: a stop is want of memory.
+pub fn by_index<'a>(alloc: Global, values: &'a [Value]) -> Result<Indexes<'a>, Stop>
+    ensures { Reads result None (λ n. n.values.now ≡ values.now) }
+{
+    let mut numbers = IndexMap::new(alloc);
+    for (i, value) in values.iter().enumerate() {
+        let Some(index) = index_of(value) else {
+            continue;
+        };
+        if numbers.contains_key(&index) {
+            continue;
+        }
+        let Ok(number) = u32::try_from(i) else {
+            return Err(Stop::OutOfMemory);
+        };
+        match numbers.insert(index, number) {
+            Ok(_) => {}
+            Err(_) => return Err(Stop::OutOfMemory),
+        }
+    }
+    Ok(Indexes { numbers, values })
+}
+
+/// The number of the first entry with this index, from 0, where there is one.
+pub fn find_index(indexes: &Indexes, index: u32) -> Option<u32>
+    ensures { result ≡ indexed index (items_view indexes.now.values.now) }
+{
+    indexes.numbers.get(&index).copied()
+}

@@ -1,0 +1,14 @@
+//! Reading of sizes files, TOML documents, and the sizes that they give to devices.
+#![tactic(auto)]
+
+mod book;
+mod given;
+mod sizes_entries;
+mod sizes_file;
+#[cfg(test)]
+mod tests;
+mod wishing;
+
+pub use given::{Mirror, Sizes, Wish};
+pub use sizes_file::read_sizes;
+pub use wishing::wishes;
