@@ -1,17 +1,33 @@
 -- The answers of a run: the status and the line of each, and what it says of the words, the files and the desk.
-use Rattle.std.specs.Prelude.{◌≡◌, ℕ, List, [], Option}
+use Rattle.std.specs.Prelude.{◌≡◌, ℕ, List, [], Option, codes}
 use Rattle.rt_desk.specs.declared.outside.DeskError.{DeskError}
 use Rattle.rt_desk.specs.declared.outside.DeskError.TheVariants as unfetched
 use Rattle.rt_desk.specs.Desk.{Files, Rose, IsStored, ChangesOnly, IsSaid, IsSaidInPart, IsFailedSay}
-use Rattle.rt_lines.specs.Lines.{usage_line, bad_stream_line, table_fault_line, table_not_toml_line, tables_differ_line, sizes_fault_line, sizes_not_toml_line, source_rule_line, unfetched_line, not_built_line}
+use Rattle.rt_lines.specs.Lines.{usage_line, bad_stream_line, table_fault_line, table_not_toml_line, tables_differ_line, sizes_fault_line, sizes_not_toml_line, source_rule_line, unfetched_line, not_built_line, unsupported_line, no_such_structure_line, cyclic_line, unmapped_layer_line, array_step_line, coordinate_range_line, too_many_items_line, too_deep_line}
+use Rattle.gds_flat.specs.declared.error.Odd.{Odd}
+use Rattle.gds_flat.specs.declared.error.Odd.TheVariants.{PathType, PathWidth, BoxElement, Magnification, Angle, Absolute, Slanted}
+use Rattle.gds_flat.specs.declared.error.FlatError.{FlatError}
+use Rattle.gds_flat.specs.declared.error.FlatError.TheVariants as flat
 use Rattle.rt_retarget.specs.declared.answer.Fault.{Fault}
-use Rattle.rt_retarget.specs.declared.answer.Fault.TheVariants.{TableToml, BadTable, TablesDiffer, SizesToml, BadSizes, NotBuilt, BadStream, SourceRule}
+use Rattle.rt_retarget.specs.declared.answer.Fault.TheVariants.{TableToml, BadTable, TablesDiffer, SizesToml, BadSizes, NotBuilt, BadStream, Unflattened, SourceRule}
 use Rattle.rt_retarget.specs.declared.answer.Fault.TheVariants as refused
 use Rattle.rt_retarget.specs.Answers.{IsDone, IsFaultOf}
 use Rattle.rt_cli.specs.declared.answer.Answer.{Answer}
 use Rattle.rt_cli.specs.declared.answer.Answer.TheVariants.{Done, Usage, Refused, NotFetched, NotStored, OutOfMemory}
 use Rattle.rt_cli.specs.Words.{Names, AreWordsFor}
 use Rattle.rt_cli.specs.Outside.{Kept, Seen, Contents, AreFetched, IsNotFetched, fetched_names}
+
+-- the status of each reason for which the source's cell isn't flattened
+abbrev pub number_of_unflattened : FlatError → ℕ
+number_of_unflattened (flat.Unsupported offset odd) = 6
+number_of_unflattened (flat.NoSuchStructure name) = 6
+number_of_unflattened (flat.Cyclic names) = 6
+number_of_unflattened (flat.UnmappedLayer layer number) = 6
+number_of_unflattened (flat.ArrayStep offset) = 6
+number_of_unflattened (flat.CoordinateRange offset) = 6
+number_of_unflattened (flat.TooMany count) = 14
+number_of_unflattened flat.TooDeep = 6
+number_of_unflattened flat.OutOfMemory = 13
 
 -- the status of each refusal of the files
 abbrev pub number_of_refusal : Fault → ℕ
@@ -21,6 +37,7 @@ number_of_refusal (BadTable which key cause) = 4
 number_of_refusal (TablesDiffer key) = 4
 number_of_refusal SizesToml = 5
 number_of_refusal (BadSizes key cause) = 5
+number_of_refusal (Unflattened error) = number_of_unflattened error
 number_of_refusal (SourceRule rule mask p q found needed) = 7
 number_of_refusal refused.OutOfMemory = 13
 number_of_refusal NotBuilt = 30
@@ -41,6 +58,28 @@ number_of (NotFetched file) = number_of_unfetched file.error
 number_of NotStored = 12
 number_of OutOfMemory = 13
 
+-- what isn't taken in an element, as its variant is spelled
+abbrev pub odd_word : Odd → List ℕ
+odd_word PathType = codes "PathType"
+odd_word PathWidth = codes "PathWidth"
+odd_word BoxElement = codes "BoxElement"
+odd_word Magnification = codes "Magnification"
+odd_word Angle = codes "Angle"
+odd_word Absolute = codes "Absolute"
+odd_word Slanted = codes "Slanted"
+
+-- the line of each reason for which the source's cell isn't flattened; want of memory has none
+abbrev pub line_of_unflattened : FlatError → List ℕ
+line_of_unflattened (flat.Unsupported offset odd) = unsupported_line offset (odd_word odd)
+line_of_unflattened (flat.NoSuchStructure name) = no_such_structure_line name
+line_of_unflattened (flat.Cyclic names) = cyclic_line names
+line_of_unflattened (flat.UnmappedLayer layer number) = unmapped_layer_line layer number
+line_of_unflattened (flat.ArrayStep offset) = array_step_line offset
+line_of_unflattened (flat.CoordinateRange offset) = coordinate_range_line offset
+line_of_unflattened (flat.TooMany count) = too_many_items_line count
+line_of_unflattened flat.TooDeep = too_deep_line
+line_of_unflattened flat.OutOfMemory = []
+
 -- the line of each refusal of the files; want of memory has none
 abbrev pub line_of_refusal : Fault → List ℕ
 line_of_refusal (BadStream offset cause) = bad_stream_line offset cause
@@ -49,6 +88,7 @@ line_of_refusal (BadTable which key cause) = table_fault_line which key cause
 line_of_refusal (TablesDiffer key) = tables_differ_line key
 line_of_refusal SizesToml = sizes_not_toml_line
 line_of_refusal (BadSizes key cause) = sizes_fault_line key cause
+line_of_refusal (Unflattened error) = line_of_unflattened error
 line_of_refusal (SourceRule rule mask p q found needed) = source_rule_line rule mask p q found needed
 line_of_refusal refused.OutOfMemory = []
 line_of_refusal NotBuilt = not_built_line

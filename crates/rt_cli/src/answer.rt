@@ -1,12 +1,13 @@
 ghost use Rattle.std.specs.Prelude.{◌≡◌};
-ghost use Rattle.rt_cli.specs.Answers.{number_of_refusal, number_of_unfetched};
+ghost use Rattle.rt_cli.specs.Answers.{number_of_refusal, number_of_unflattened, number_of_unfetched};
 
 use crate::fetching::Unfetched;
+use gds_flat::FlatError;
 use rt_desk::DeskError;
 use rt_retarget::Fault;
 
 /// How a run ends.
-#[derive(Debug, PartialEq, Eq, Drop)]
+#[derive(Debug, Drop)]
 pub enum Answer<'a> {
     /// The cell was moved, and OUT holds it.
     Done,
@@ -48,9 +49,27 @@ fn refusal_number(fault: &Fault) -> u8
         Fault::BadStream { .. } => 3,
         Fault::TableToml { .. } | Fault::BadTable { .. } | Fault::TablesDiffer { .. } => 4,
         Fault::SizesToml | Fault::BadSizes { .. } => 5,
+        Fault::Unflattened(error) => unflattened_number(error),
         Fault::SourceRule { .. } => 7,
         Fault::OutOfMemory => 13,
         Fault::NotBuilt => 30,
+    }
+}
+
+// The exit status where the source's cell isn't flattened.
+fn unflattened_number(error: &FlatError) -> u8
+    ensures { result ≡ number_of_unflattened error.now }
+{
+    match error {
+        FlatError::Unsupported { .. }
+        | FlatError::NoSuchStructure { .. }
+        | FlatError::Cyclic { .. }
+        | FlatError::UnmappedLayer { .. }
+        | FlatError::ArrayStep { .. }
+        | FlatError::CoordinateRange { .. }
+        | FlatError::TooDeep => 6,
+        FlatError::TooMany { .. } => 14,
+        FlatError::OutOfMemory => 13,
     }
 }
 

@@ -24,9 +24,10 @@ const NO_MEMORY: u8 = 13;
 ///
 /// The one form is `retarget SOURCE STABLE TTABLE SIZES OUT CERT`: it fetches the first four files, and stores the moved
 /// cell as OUT. The statuses are 0 where OUT is stored; 2 where the words are of no form; 3 where the source isn't a stream
-/// of the format; 4 where a table isn't valid, or the two aren't of one form; 5 where the sizes file isn't valid; 7 where
-/// the source breaks a rule of its own table; 11 where a file wasn't fetched; 12 where OUT wasn't stored; 13 where there
-/// was no memory; and 30 where the files ask for what isn't built yet.
+/// of the format; 4 where a table isn't valid, or the two aren't of one form; 5 where the sizes file isn't valid; 6 where the
+/// cell isn't flattened; 7 where the source breaks a rule of its own table; 11 where a file wasn't fetched; 12 where OUT
+/// wasn't stored; 13 where there was no memory; 14 where the flat cell has too many rectangles and labels; and 30 where the
+/// files ask for what isn't built yet.
 ///
 /// For each status but 0, 12 and 13 it says one line, which names the place and the cause. Where a say fails no more of the
 /// line is said, and the status stands; where there is no memory for it, the status is 13.

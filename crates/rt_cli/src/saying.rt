@@ -1,13 +1,15 @@
 ghost use Rattle.std.specs.Prelude.{◌≡◌, ◌≤◌, [], MatchBool};
 ghost use Rattle.rt_lines.specs.Saying.{SaysLine};
-ghost use Rattle.rt_cli.specs.Answers.{line_of, line_of_refusal};
+ghost use Rattle.rt_cli.specs.Answers.{line_of, line_of_refusal, line_of_unflattened, odd_word as word_of};
 
 use crate::answer::Answer;
+use gds_flat::{FlatError, Odd};
 use rt_desk::{Desk, DeskError};
 use rt_lines::{
-    BrokenRule, say_bad_stream, say_not_built, say_pieces, say_sizes_fault, say_sizes_not_toml,
-    say_source_rule, say_table_fault, say_table_not_toml, say_tables_differ, say_unfetched,
-    say_usage,
+    BrokenRule, say_array_step, say_bad_stream, say_coordinate_range, say_cyclic,
+    say_no_such_structure, say_not_built, say_pieces, say_sizes_fault, say_sizes_not_toml,
+    say_source_rule, say_table_fault, say_table_not_toml, say_tables_differ, say_too_deep,
+    say_too_many_items, say_unfetched, say_unmapped_layer, say_unsupported, say_usage,
 };
 use rt_retarget::Fault;
 
@@ -28,7 +30,18 @@ fn refusal_has_line(fault: &Fault) -> bool
     ensures { MatchBool result (line_of_refusal fault.now ≡ [] → ⊥) (line_of_refusal fault.now ≡ []) }
 {
     match fault {
+        Fault::Unflattened(error) => unflattened_has_line(error),
         Fault::OutOfMemory => false,
+        _ => true,
+    }
+}
+
+// Whether the reason for which a cell isn't flattened has a line: all have but want of memory.
+fn unflattened_has_line(error: &FlatError) -> bool
+    ensures { MatchBool result (line_of_unflattened error.now ≡ [] → ⊥) (line_of_unflattened error.now ≡ []) }
+{
+    match error {
+        FlatError::OutOfMemory => false,
         _ => true,
     }
 }
@@ -83,8 +96,47 @@ fn say_refusal<D: Desk>(fault: &Fault, desk: &mut D) -> Result<(), DeskError>
                 needed: *needed,
             },
         ),
+        Fault::Unflattened(error) => say_unflattened(error, desk),
         Fault::NotBuilt => say_not_built(desk),
         Fault::OutOfMemory => say_nothing(desk),
+    }
+}
+
+// Says the line of a cell that isn't flattened.
+fn say_unflattened<D: Desk>(error: &FlatError, desk: &mut D) -> Result<(), DeskError>
+    ensures line { SaysLine (D.said desk.old) (D.said desk.new) (D.say_faults desk.old) (D.say_faults desk.new) (line_of_unflattened error.now) result }
+    ensures files_stay { D.files desk.new ≡ D.files desk.old }
+    ensures count { D.say_faults desk.old ≤ D.say_faults desk.new }
+    ensures fetch_count { D.fetch_faults desk.new ≡ D.fetch_faults desk.old }
+    ensures store_count { D.store_faults desk.new ≡ D.store_faults desk.old }
+{
+    match error {
+        FlatError::Unsupported { offset, odd } => say_unsupported(desk, *offset, odd_word(odd)),
+        FlatError::NoSuchStructure { name } => say_no_such_structure(desk, name),
+        FlatError::Cyclic { names } => say_cyclic(desk, names.as_slice()),
+        FlatError::UnmappedLayer { layer, number } => {
+            say_unmapped_layer(desk, &(*layer, *number))
+        }
+        FlatError::ArrayStep { offset } => say_array_step(desk, *offset),
+        FlatError::CoordinateRange { offset } => say_coordinate_range(desk, *offset),
+        FlatError::TooMany { count } => say_too_many_items(desk, *count),
+        FlatError::TooDeep => say_too_deep(desk),
+        FlatError::OutOfMemory => say_nothing(desk),
+    }
+}
+
+// What isn't taken in an element, as a word.
+fn odd_word(odd: &Odd) -> &'static str
+    ensures { result.now ≡ word_of odd.now }
+{
+    match odd {
+        Odd::PathType => "PathType",
+        Odd::PathWidth => "PathWidth",
+        Odd::BoxElement => "BoxElement",
+        Odd::Magnification => "Magnification",
+        Odd::Angle => "Angle",
+        Odd::Absolute => "Absolute",
+        Odd::Slanted => "Slanted",
     }
 }
 

@@ -426,6 +426,9 @@ const COLOURED: &str =
 const OTHER_MASK: &str =
     "version = 1\ngrid = 1\nunits = \"41100000000000004110000000000000\"\nmask = [{name = \"n\", role = \"metal\", layer = 1, datatype = 0, width = 6, space = 4}]\n";
 
+const NO_MASK: &str =
+    "version = 1\ngrid = 1\nunits = \"41100000000000004110000000000000\"\nmask = []\n";
+
 const NO_TABLE: &str = "version 1\n";
 
 const OTHER_CELL: &str = "version = 1\ncell = \"TOP2\"\nmirror = \"none\"\n";
@@ -451,7 +454,7 @@ struct Refused {
     says: (&'static str, &'static str),
 }
 
-const REFUSED: [Refused; 24] = [
+const REFUSED: [Refused; 25] = [
     Refused {
         shows: "a shared side",
         stable: NARROW,
@@ -589,6 +592,16 @@ const REFUSED: [Refused; 24] = [
         says: ("tables differ: mask.0.name\n", ""),
     },
     Refused {
+        shows: "a target's table without a mask",
+        stable: NARROW,
+        ttable: NO_MASK,
+        sizes: SIZES,
+        rectangles: &[(1, 10, 0, 20, 4)],
+        more: &[],
+        status: 4,
+        says: ("target table: mask: Range\n", ""),
+    },
+    Refused {
         shows: "tables that differ, before a sizes file",
         stable: NARROW,
         ttable: OTHER_MASK,
@@ -658,8 +671,8 @@ const REFUSED: [Refused; 24] = [
         sizes: OTHER_CELL,
         rectangles: &[(1, 10, 0, 20, 4)],
         more: &[],
-        status: 30,
-        says: ("not built\n", ""),
+        status: 6,
+        says: ("no such structure: TOP2\n", ""),
     },
     Refused {
         shows: "a layer of no mask",
@@ -668,8 +681,8 @@ const REFUSED: [Refused; 24] = [
         sizes: SIZES,
         rectangles: &[(2, 10, 0, 20, 4)],
         more: &[],
-        status: 30,
-        says: ("not built\n", ""),
+        status: 6,
+        says: ("unmapped layer: 2 0\n", ""),
     },
     Refused {
         shows: "a byte that is no zero behind the stream",
@@ -844,7 +857,7 @@ fn moves_one_rectangle_and_none(rt: HostRuntime) -> Result<(), Fail> {
 }
 
 // Points of a polygon, the status of a source with it alone, and what is said.
-const POLYGONS: [([i32; 10], u8, &str); 12] = [
+const POLYGONS: [([i32; 10], u8, &str); 11] = [
     ([10, 0, 20, 0, 20, 4, 10, 4, 10, 0], 0, ""),
     ([20, 0, 20, 4, 10, 4, 10, 0, 20, 0], 0, ""),
     ([20, 4, 10, 4, 10, 0, 20, 0, 20, 4], 0, ""),
@@ -858,9 +871,16 @@ const POLYGONS: [([i32; 10], u8, &str); 12] = [
         3,
         "bad stream at 114: WrongData\n",
     ),
-    ([10, 0, 20, 0, 20, 4, 11, 4, 10, 0], 30, "not built\n"),
-    ([10, 0, 20, 0, 20, 0, 10, 0, 10, 0], 30, "not built\n"),
-    ([10, 0, 20, 4, 20, 0, 10, 4, 10, 0], 30, "not built\n"),
+    (
+        [10, 0, 20, 0, 20, 4, 11, 4, 10, 0],
+        6,
+        "unsupported at 98: Slanted\n",
+    ),
+    (
+        [10, 0, 20, 4, 20, 0, 10, 4, 10, 0],
+        6,
+        "unsupported at 98: Slanted\n",
+    ),
 ];
 
 // The stream of one polygon.
@@ -1007,6 +1027,241 @@ fn refuses_too_few_or_too_many_words(rt: HostRuntime) -> Result<(), Fail> {
         assert_eq!(rt; run(alloc, &words, &mut desk), Status(2));
     }
     assert!(rt; holds(&desk, &given, None));
+    Ok(())
+}
+
+const TURNED_AND_ARRAYED: [u8; 302] = [
+    0, 6, 0, 2, 2, 88, 0, 28, 1, 2, 0, 0, 0, 0, 0, 0, 0, 0, 0, 0, 0, 0, 0, 0, 0, 0, 0, 0, 0, 0, 0,
+    0, 0, 0, 0, 8, 2, 6, 76, 73, 66, 0, 0, 20, 3, 5, 65, 16, 0, 0, 0, 0, 0, 0, 65, 16, 0, 0, 0, 0,
+    0, 0, 0, 28, 5, 2, 0, 0, 0, 0, 0, 0, 0, 0, 0, 0, 0, 0, 0, 0, 0, 0, 0, 0, 0, 0, 0, 0, 0, 0, 0,
+    6, 6, 6, 67, 0, 0, 4, 8, 0, 0, 6, 13, 2, 0, 1, 0, 6, 14, 2, 0, 0, 0, 44, 16, 3, 0, 0, 0, 0, 0,
+    0, 0, 0, 0, 0, 0, 10, 0, 0, 0, 0, 0, 0, 0, 10, 0, 0, 0, 4, 0, 0, 0, 0, 0, 0, 0, 4, 0, 0, 0, 0,
+    0, 0, 0, 0, 0, 4, 17, 0, 0, 4, 7, 0, 0, 28, 5, 2, 0, 0, 0, 0, 0, 0, 0, 0, 0, 0, 0, 0, 0, 0, 0,
+    0, 0, 0, 0, 0, 0, 0, 0, 0, 0, 8, 6, 6, 84, 79, 80, 0, 0, 4, 10, 0, 0, 6, 18, 6, 67, 0, 0, 6,
+    26, 1, 128, 0, 0, 12, 28, 5, 66, 90, 0, 0, 0, 0, 0, 0, 0, 12, 16, 3, 0, 0, 0, 100, 0, 0, 0, 0,
+    0, 4, 17, 0, 0, 4, 11, 0, 0, 6, 18, 6, 67, 0, 0, 8, 19, 2, 0, 3, 0, 2, 0, 28, 16, 3, 0, 0, 0,
+    0, 0, 0, 0, 20, 0, 0, 0, 60, 0, 0, 0, 20, 0, 0, 0, 0, 0, 0, 0, 60, 0, 4, 17, 0, 0, 4, 7, 0, 0,
+    4, 4, 0,
+];
+
+const ONE_BOX: [u8; 170] = [
+    0, 6, 0, 2, 2, 88, 0, 28, 1, 2, 0, 0, 0, 0, 0, 0, 0, 0, 0, 0, 0, 0, 0, 0, 0, 0, 0, 0, 0, 0, 0,
+    0, 0, 0, 0, 8, 2, 6, 76, 73, 66, 0, 0, 20, 3, 5, 65, 16, 0, 0, 0, 0, 0, 0, 65, 16, 0, 0, 0, 0,
+    0, 0, 0, 28, 5, 2, 0, 0, 0, 0, 0, 0, 0, 0, 0, 0, 0, 0, 0, 0, 0, 0, 0, 0, 0, 0, 0, 0, 0, 0, 0,
+    8, 6, 6, 84, 79, 80, 0, 0, 4, 45, 0, 0, 6, 13, 2, 0, 1, 0, 6, 46, 2, 0, 0, 0, 44, 16, 3, 0, 0,
+    0, 0, 0, 0, 0, 0, 0, 0, 0, 1, 0, 0, 0, 0, 0, 0, 0, 1, 0, 0, 0, 1, 0, 0, 0, 0, 0, 0, 0, 1, 0, 0,
+    0, 0, 0, 0, 0, 0, 0, 4, 17, 0, 0, 4, 7, 0, 0, 4, 4, 0,
+];
+
+const CIRCLE: [u8; 198] = [
+    0, 6, 0, 2, 2, 88, 0, 28, 1, 2, 0, 0, 0, 0, 0, 0, 0, 0, 0, 0, 0, 0, 0, 0, 0, 0, 0, 0, 0, 0, 0,
+    0, 0, 0, 0, 8, 2, 6, 76, 73, 66, 0, 0, 20, 3, 5, 65, 16, 0, 0, 0, 0, 0, 0, 65, 16, 0, 0, 0, 0,
+    0, 0, 0, 28, 5, 2, 0, 0, 0, 0, 0, 0, 0, 0, 0, 0, 0, 0, 0, 0, 0, 0, 0, 0, 0, 0, 0, 0, 0, 0, 0,
+    8, 6, 6, 84, 79, 80, 0, 0, 4, 10, 0, 0, 6, 18, 6, 66, 0, 0, 12, 16, 3, 0, 0, 0, 0, 0, 0, 0, 0,
+    0, 4, 17, 0, 0, 4, 7, 0, 0, 28, 5, 2, 0, 0, 0, 0, 0, 0, 0, 0, 0, 0, 0, 0, 0, 0, 0, 0, 0, 0, 0,
+    0, 0, 0, 0, 0, 0, 6, 6, 6, 66, 0, 0, 4, 10, 0, 0, 8, 18, 6, 84, 79, 80, 0, 0, 12, 16, 3, 0, 0,
+    0, 0, 0, 0, 0, 0, 0, 4, 17, 0, 0, 4, 7, 0, 0, 4, 4, 0,
+];
+
+const SIXTY_THOUSAND: [u8; 258] = [
+    0, 6, 0, 2, 2, 88, 0, 28, 1, 2, 0, 0, 0, 0, 0, 0, 0, 0, 0, 0, 0, 0, 0, 0, 0, 0, 0, 0, 0, 0, 0,
+    0, 0, 0, 0, 8, 2, 6, 76, 73, 66, 0, 0, 20, 3, 5, 65, 16, 0, 0, 0, 0, 0, 0, 65, 16, 0, 0, 0, 0,
+    0, 0, 0, 28, 5, 2, 0, 0, 0, 0, 0, 0, 0, 0, 0, 0, 0, 0, 0, 0, 0, 0, 0, 0, 0, 0, 0, 0, 0, 0, 0,
+    6, 6, 6, 67, 0, 0, 4, 8, 0, 0, 6, 13, 2, 0, 1, 0, 6, 14, 2, 0, 0, 0, 44, 16, 3, 0, 0, 0, 0, 0,
+    0, 0, 0, 0, 0, 0, 10, 0, 0, 0, 0, 0, 0, 0, 10, 0, 0, 0, 4, 0, 0, 0, 0, 0, 0, 0, 4, 0, 0, 0, 0,
+    0, 0, 0, 0, 0, 4, 17, 0, 0, 4, 7, 0, 0, 28, 5, 2, 0, 0, 0, 0, 0, 0, 0, 0, 0, 0, 0, 0, 0, 0, 0,
+    0, 0, 0, 0, 0, 0, 0, 0, 0, 0, 8, 6, 6, 84, 79, 80, 0, 0, 4, 11, 0, 0, 6, 18, 6, 67, 0, 0, 8,
+    19, 2, 1, 44, 0, 200, 0, 28, 16, 3, 0, 0, 0, 0, 0, 0, 0, 0, 0, 0, 1, 44, 0, 0, 0, 0, 0, 0, 0,
+    0, 0, 0, 0, 200, 0, 4, 17, 0, 0, 4, 7, 0, 0, 4, 4, 0,
+];
+
+const NO_PART: [u8; 132] = [
+    0, 6, 0, 2, 2, 88, 0, 28, 1, 2, 0, 0, 0, 0, 0, 0, 0, 0, 0, 0, 0, 0, 0, 0, 0, 0, 0, 0, 0, 0, 0,
+    0, 0, 0, 0, 8, 2, 6, 76, 73, 66, 0, 0, 20, 3, 5, 65, 16, 0, 0, 0, 0, 0, 0, 65, 16, 0, 0, 0, 0,
+    0, 0, 0, 28, 5, 2, 0, 0, 0, 0, 0, 0, 0, 0, 0, 0, 0, 0, 0, 0, 0, 0, 0, 0, 0, 0, 0, 0, 0, 0, 0,
+    8, 6, 6, 84, 79, 80, 0, 0, 4, 10, 0, 0, 6, 18, 6, 67, 0, 0, 12, 16, 3, 0, 0, 0, 0, 0, 0, 0, 0,
+    0, 4, 17, 0, 0, 4, 7, 0, 0, 4, 4, 0,
+];
+
+const HALF_A_STEP: [u8; 258] = [
+    0, 6, 0, 2, 2, 88, 0, 28, 1, 2, 0, 0, 0, 0, 0, 0, 0, 0, 0, 0, 0, 0, 0, 0, 0, 0, 0, 0, 0, 0, 0,
+    0, 0, 0, 0, 8, 2, 6, 76, 73, 66, 0, 0, 20, 3, 5, 65, 16, 0, 0, 0, 0, 0, 0, 65, 16, 0, 0, 0, 0,
+    0, 0, 0, 28, 5, 2, 0, 0, 0, 0, 0, 0, 0, 0, 0, 0, 0, 0, 0, 0, 0, 0, 0, 0, 0, 0, 0, 0, 0, 0, 0,
+    6, 6, 6, 67, 0, 0, 4, 8, 0, 0, 6, 13, 2, 0, 1, 0, 6, 14, 2, 0, 0, 0, 44, 16, 3, 0, 0, 0, 0, 0,
+    0, 0, 0, 0, 0, 0, 10, 0, 0, 0, 0, 0, 0, 0, 10, 0, 0, 0, 4, 0, 0, 0, 0, 0, 0, 0, 4, 0, 0, 0, 0,
+    0, 0, 0, 0, 0, 4, 17, 0, 0, 4, 7, 0, 0, 28, 5, 2, 0, 0, 0, 0, 0, 0, 0, 0, 0, 0, 0, 0, 0, 0, 0,
+    0, 0, 0, 0, 0, 0, 0, 0, 0, 0, 8, 6, 6, 84, 79, 80, 0, 0, 4, 11, 0, 0, 6, 18, 6, 67, 0, 0, 8,
+    19, 2, 0, 2, 0, 1, 0, 28, 16, 3, 0, 0, 0, 0, 0, 0, 0, 0, 0, 0, 0, 5, 0, 0, 0, 0, 0, 0, 0, 0, 0,
+    0, 0, 0, 0, 4, 17, 0, 0, 4, 7, 0, 0, 4, 4, 0,
+];
+
+const FAR_OUT: [u8; 234] = [
+    0, 6, 0, 2, 2, 88, 0, 28, 1, 2, 0, 0, 0, 0, 0, 0, 0, 0, 0, 0, 0, 0, 0, 0, 0, 0, 0, 0, 0, 0, 0,
+    0, 0, 0, 0, 8, 2, 6, 76, 73, 66, 0, 0, 20, 3, 5, 65, 16, 0, 0, 0, 0, 0, 0, 65, 16, 0, 0, 0, 0,
+    0, 0, 0, 28, 5, 2, 0, 0, 0, 0, 0, 0, 0, 0, 0, 0, 0, 0, 0, 0, 0, 0, 0, 0, 0, 0, 0, 0, 0, 0, 0,
+    6, 6, 6, 67, 0, 0, 4, 8, 0, 0, 6, 13, 2, 0, 1, 0, 6, 14, 2, 0, 0, 0, 44, 16, 3, 0, 0, 0, 0, 0,
+    0, 0, 0, 0, 0, 0, 10, 0, 0, 0, 0, 0, 0, 0, 10, 0, 0, 0, 4, 0, 0, 0, 0, 0, 0, 0, 4, 0, 0, 0, 0,
+    0, 0, 0, 0, 0, 4, 17, 0, 0, 4, 7, 0, 0, 28, 5, 2, 0, 0, 0, 0, 0, 0, 0, 0, 0, 0, 0, 0, 0, 0, 0,
+    0, 0, 0, 0, 0, 0, 0, 0, 0, 0, 8, 6, 6, 84, 79, 80, 0, 0, 4, 10, 0, 0, 6, 18, 6, 67, 0, 0, 12,
+    16, 3, 59, 154, 202, 0, 0, 0, 0, 0, 0, 4, 17, 0, 0, 4, 7, 0, 0, 4, 4, 0,
+];
+
+const BEYOND_COUNTING: [u8; 434] = [
+    0, 6, 0, 2, 2, 88, 0, 28, 1, 2, 0, 0, 0, 0, 0, 0, 0, 0, 0, 0, 0, 0, 0, 0, 0, 0, 0, 0, 0, 0, 0,
+    0, 0, 0, 0, 8, 2, 6, 76, 73, 66, 0, 0, 20, 3, 5, 65, 16, 0, 0, 0, 0, 0, 0, 65, 16, 0, 0, 0, 0,
+    0, 0, 0, 28, 5, 2, 0, 0, 0, 0, 0, 0, 0, 0, 0, 0, 0, 0, 0, 0, 0, 0, 0, 0, 0, 0, 0, 0, 0, 0, 0,
+    6, 6, 6, 67, 0, 0, 4, 8, 0, 0, 6, 13, 2, 0, 1, 0, 6, 14, 2, 0, 0, 0, 44, 16, 3, 0, 0, 0, 0, 0,
+    0, 0, 0, 0, 0, 0, 10, 0, 0, 0, 0, 0, 0, 0, 10, 0, 0, 0, 4, 0, 0, 0, 0, 0, 0, 0, 4, 0, 0, 0, 0,
+    0, 0, 0, 0, 0, 4, 17, 0, 0, 4, 7, 0, 0, 28, 5, 2, 0, 0, 0, 0, 0, 0, 0, 0, 0, 0, 0, 0, 0, 0, 0,
+    0, 0, 0, 0, 0, 0, 0, 0, 0, 0, 6, 6, 6, 68, 0, 0, 4, 11, 0, 0, 6, 18, 6, 67, 0, 0, 8, 19, 2,
+    127, 255, 127, 255, 0, 28, 16, 3, 0, 0, 0, 0, 0, 0, 0, 0, 0, 0, 0, 0, 0, 0, 0, 0, 0, 0, 0, 0,
+    0, 0, 0, 0, 0, 4, 17, 0, 0, 4, 7, 0, 0, 28, 5, 2, 0, 0, 0, 0, 0, 0, 0, 0, 0, 0, 0, 0, 0, 0, 0,
+    0, 0, 0, 0, 0, 0, 0, 0, 0, 0, 6, 6, 6, 69, 0, 0, 4, 11, 0, 0, 6, 18, 6, 68, 0, 0, 8, 19, 2,
+    127, 255, 127, 255, 0, 28, 16, 3, 0, 0, 0, 0, 0, 0, 0, 0, 0, 0, 0, 0, 0, 0, 0, 0, 0, 0, 0, 0,
+    0, 0, 0, 0, 0, 4, 17, 0, 0, 4, 7, 0, 0, 28, 5, 2, 0, 0, 0, 0, 0, 0, 0, 0, 0, 0, 0, 0, 0, 0, 0,
+    0, 0, 0, 0, 0, 0, 0, 0, 0, 0, 8, 6, 6, 84, 79, 80, 0, 0, 4, 11, 0, 0, 6, 18, 6, 69, 0, 0, 8,
+    19, 2, 127, 255, 127, 255, 0, 28, 16, 3, 0, 0, 0, 0, 0, 0, 0, 0, 0, 0, 0, 0, 0, 0, 0, 0, 0, 0,
+    0, 0, 0, 0, 0, 0, 0, 4, 17, 0, 0, 4, 7, 0, 0, 4, 4, 0,
+];
+
+const MANY: [u8; 258] = [
+    0, 6, 0, 2, 2, 88, 0, 28, 1, 2, 0, 0, 0, 0, 0, 0, 0, 0, 0, 0, 0, 0, 0, 0, 0, 0, 0, 0, 0, 0, 0,
+    0, 0, 0, 0, 8, 2, 6, 76, 73, 66, 0, 0, 20, 3, 5, 65, 16, 0, 0, 0, 0, 0, 0, 65, 16, 0, 0, 0, 0,
+    0, 0, 0, 28, 5, 2, 0, 0, 0, 0, 0, 0, 0, 0, 0, 0, 0, 0, 0, 0, 0, 0, 0, 0, 0, 0, 0, 0, 0, 0, 0,
+    6, 6, 6, 67, 0, 0, 4, 8, 0, 0, 6, 13, 2, 0, 1, 0, 6, 14, 2, 0, 0, 0, 44, 16, 3, 0, 0, 0, 0, 0,
+    0, 0, 0, 0, 0, 0, 10, 0, 0, 0, 0, 0, 0, 0, 10, 0, 0, 0, 4, 0, 0, 0, 0, 0, 0, 0, 4, 0, 0, 0, 0,
+    0, 0, 0, 0, 0, 4, 17, 0, 0, 4, 7, 0, 0, 28, 5, 2, 0, 0, 0, 0, 0, 0, 0, 0, 0, 0, 0, 0, 0, 0, 0,
+    0, 0, 0, 0, 0, 0, 0, 0, 0, 0, 8, 6, 6, 84, 79, 80, 0, 0, 4, 11, 0, 0, 6, 18, 6, 67, 0, 0, 8,
+    19, 2, 0, 121, 0, 1, 0, 28, 16, 3, 0, 0, 0, 0, 0, 0, 0, 0, 0, 0, 9, 116, 0, 0, 0, 0, 0, 0, 0,
+    0, 0, 0, 0, 0, 0, 4, 17, 0, 0, 4, 7, 0, 0, 4, 4, 0,
+];
+
+// Sources whose cells aren't flattened, or to too much.
+const UNFLATTENED: [(&str, &[u8], u8, &str); 8] = [
+    ("a box", &ONE_BOX, 6, "unsupported at 98: BoxElement\n"),
+    ("a circle", &CIRCLE, 6, "cyclic: TOP B TOP\n"),
+    (
+        "a name of no structure",
+        &NO_PART,
+        6,
+        "no such structure: C\n",
+    ),
+    ("half a step", &HALF_A_STEP, 6, "array step at 200\n"),
+    (
+        "a rectangle far out",
+        &FAR_OUT,
+        6,
+        "coordinate range at 96\n",
+    ),
+    (
+        "60,000 rectangles",
+        &SIXTY_THOUSAND,
+        14,
+        "too many: 60000 items\n",
+    ),
+    (
+        "more than can be counted",
+        &BEYOND_COUNTING,
+        14,
+        "too many: 18446744073709551615 items\n",
+    ),
+    ("121 rectangles", &MANY, 30, "not built\n"),
+];
+
+#[test]
+fn refuses_what_is_not_flattened(rt: HostRuntime) -> Result<(), Fail> {
+    let alloc = rt.alloc();
+    let words = words_with(alloc, 0, "retarget")?;
+    let mut given = one_rectangle(alloc)?;
+    for (shows, source, status, line) in &UNFLATTENED {
+        given.source = Vec::from_slice(alloc, source)?;
+        let mut desk = desk_with(alloc, &given)?;
+        assert_eq!(rt; run(alloc, &words, &mut desk), Status(*status), "{shows}");
+        assert!(rt; holds(&desk, &given, None), "{shows}");
+        assert!(rt; says(&desk, (line, "")), "{shows}");
+    }
+    Ok(())
+}
+
+// What is moved of TURNED_AND_ARRAYED: the turned rectangle, and two rows of three.
+const ARRAYED: [Rectangle; 7] = [
+    (1, 0, 0, 4, 4),
+    (1, 0, 8, 4, 12),
+    (1, 8, 0, 12, 4),
+    (1, 16, 0, 20, 4),
+    (1, 0, 16, 4, 20),
+    (1, 8, 8, 12, 12),
+    (1, 16, 8, 20, 12),
+];
+
+#[test]
+fn moves_what_references_place(rt: HostRuntime) -> Result<(), Fail> {
+    let alloc = rt.alloc();
+    let words = words_with(alloc, 0, "retarget")?;
+    let mut given = Given {
+        source: Vec::from_slice(alloc, &TURNED_AND_ARRAYED)?,
+        stable: table(alloc, &FOUR)?,
+        ttable: table(alloc, &FOUR)?,
+        sizes: String::from_str(alloc, SIZES)?,
+    };
+    let mut desk = desk_with(alloc, &given)?;
+    assert_eq!(rt; run(alloc, &words, &mut desk), Status(0));
+    let moved = stream(alloc, &ARRAYED)?;
+    assert!(rt; holds(&desk, &given, Some(&moved)));
+    given.source = polygon(alloc, &[10, 0, 20, 0, 20, 0, 10, 0, 10, 0])?;
+    let mut desk = desk_with(alloc, &given)?;
+    assert_eq!(rt; run(alloc, &words, &mut desk), Status(0));
+    assert!(rt; holds(&desk, &given, Some(&NO_RECTANGLE)));
+    Ok(())
+}
+
+const SOURCE_TABLE: &str =
+    "version = 1\ngrid = 1\nunits = \"41100000000000004110000000000000\"\nmask = [{name = \"active\", role = \"active\", layer = 2, datatype = 0, width = 4, space = 4}, {name = \"gate\", role = \"gate\", layer = 4, datatype = 0, width = 2, space = 3}, {name = \"contact\", role = \"cut\", layer = 6, datatype = 0, size = 2, space = 2, upper = \"metal1\", lower = [\"gate\", \"active\"]}, {name = \"metal1\", role = \"metal\", layer = 8, datatype = 0, text = [8, 1], width = 3, space = 3}, {name = \"nplus\", role = \"background\", layer = 11, datatype = 0, width = 4, space = 2}, {name = \"pplus\", role = \"background\", layer = 12, datatype = 0, width = 4, space = 2}, {name = \"nwell\", role = \"background\", layer = 1, datatype = 0, width = 6, space = 6}]\nenclose = [{cut = \"contact\", mask = \"metal1\", number = 1}, {cut = \"contact\", mask = \"gate\", number = 1}, {cut = \"contact\", mask = \"active\", number = 1}]\nchannel = {cap = 2, ext = 5, cross = 1}\napart = [{a = \"contact\", on = \"active\", b = \"gate\", number = 2}, {a = \"contact\", on = \"gate\", b = \"active\", number = 2}]\nkind = [{name = \"nmos\", device = true, inside = [{mask = \"nplus\", number = 2}], outside = [{mask = \"pplus\", number = 2}, {mask = \"nwell\", number = 3}]}, {name = \"pmos\", device = true, inside = [{mask = \"pplus\", number = 2}, {mask = \"nwell\", number = 3}], outside = [{mask = \"nplus\", number = 2}]}, {name = \"ptap\", device = false, inside = [{mask = \"pplus\", number = 2}], outside = [{mask = \"nplus\", number = 2}, {mask = \"nwell\", number = 3}]}, {name = \"ntap\", device = false, inside = [{mask = \"nplus\", number = 2}, {mask = \"nwell\", number = 3}], outside = [{mask = \"pplus\", number = 2}]}]\n";
+
+const TARGET_TABLE: &str =
+    "version = 1\ngrid = 1\nunits = \"41100000000000004110000000000000\"\nmask = [{name = \"active\", role = \"active\", layer = 22, datatype = 0, width = 4, space = 4}, {name = \"gate\", role = \"gate\", layer = 24, datatype = 0, width = 2, space = 4}, {name = \"contact\", role = \"cut\", layer = 26, datatype = 0, size = 2, space = 2, upper = \"metal1\", lower = [\"gate\", \"active\"]}, {name = \"metal1\", role = \"metal\", layer = 28, datatype = 0, text = [28, 1], width = 3, space = 2}, {name = \"nplus\", role = \"background\", layer = 31, datatype = 0, width = 4, space = 2}, {name = \"pplus\", role = \"background\", layer = 32, datatype = 0, width = 4, space = 2}, {name = \"nwell\", role = \"background\", layer = 21, datatype = 0, width = 6, space = 6}]\nenclose = [{cut = \"contact\", mask = \"metal1\", number = 1}, {cut = \"contact\", mask = \"gate\", number = 1}, {cut = \"contact\", mask = \"active\", number = 1}]\nchannel = {cap = 2, ext = 3, cross = 1}\napart = [{a = \"contact\", on = \"active\", b = \"gate\", number = 2}, {a = \"contact\", on = \"gate\", b = \"active\", number = 2}]\nkind = [{name = \"nmos\", device = true, inside = [{mask = \"nplus\", number = 2}], outside = [{mask = \"pplus\", number = 2}, {mask = \"nwell\", number = 3}]}, {name = \"pmos\", device = true, inside = [{mask = \"pplus\", number = 2}, {mask = \"nwell\", number = 3}], outside = [{mask = \"nplus\", number = 2}]}, {name = \"ptap\", device = false, inside = [{mask = \"pplus\", number = 2}], outside = [{mask = \"nplus\", number = 2}, {mask = \"nwell\", number = 3}]}, {name = \"ntap\", device = false, inside = [{mask = \"nplus\", number = 2}, {mask = \"nwell\", number = 3}], outside = [{mask = \"pplus\", number = 2}]}]\n";
+
+const ON_ACTIVE_ALONE: &str =
+    "version = 1\ngrid = 1\nunits = \"41100000000000004110000000000000\"\nmask = [{name = \"active\", role = \"active\", layer = 2, datatype = 0, width = 4, space = 4}, {name = \"gate\", role = \"gate\", layer = 4, datatype = 0, width = 2, space = 3}, {name = \"contact\", role = \"cut\", layer = 6, datatype = 0, size = 2, space = 2, upper = \"metal1\", lower = [\"active\"]}, {name = \"metal1\", role = \"metal\", layer = 8, datatype = 0, text = [8, 1], width = 3, space = 3}, {name = \"nplus\", role = \"background\", layer = 11, datatype = 0, width = 4, space = 2}, {name = \"pplus\", role = \"background\", layer = 12, datatype = 0, width = 4, space = 2}, {name = \"nwell\", role = \"background\", layer = 1, datatype = 0, width = 6, space = 6}]\nenclose = [{cut = \"contact\", mask = \"metal1\", number = 1}, {cut = \"contact\", mask = \"active\", number = 1}]\nchannel = {cap = 2, ext = 5, cross = 1}\napart = []\nkind = [{name = \"nmos\", device = true, inside = [{mask = \"nplus\", number = 2}], outside = [{mask = \"pplus\", number = 2}, {mask = \"nwell\", number = 3}]}, {name = \"pmos\", device = true, inside = [{mask = \"pplus\", number = 2}, {mask = \"nwell\", number = 3}], outside = [{mask = \"nplus\", number = 2}]}, {name = \"ptap\", device = false, inside = [{mask = \"pplus\", number = 2}], outside = [{mask = \"nplus\", number = 2}, {mask = \"nwell\", number = 3}]}, {name = \"ntap\", device = false, inside = [{mask = \"nplus\", number = 2}, {mask = \"nwell\", number = 3}], outside = [{mask = \"pplus\", number = 2}]}]\n";
+
+const APARTS_EXCHANGED: &str =
+    "version = 1\ngrid = 1\nunits = \"41100000000000004110000000000000\"\nmask = [{name = \"active\", role = \"active\", layer = 22, datatype = 0, width = 4, space = 4}, {name = \"gate\", role = \"gate\", layer = 24, datatype = 0, width = 2, space = 4}, {name = \"contact\", role = \"cut\", layer = 26, datatype = 0, size = 2, space = 2, upper = \"metal1\", lower = [\"gate\", \"active\"]}, {name = \"metal1\", role = \"metal\", layer = 28, datatype = 0, text = [28, 1], width = 3, space = 2}, {name = \"nplus\", role = \"background\", layer = 31, datatype = 0, width = 4, space = 2}, {name = \"pplus\", role = \"background\", layer = 32, datatype = 0, width = 4, space = 2}, {name = \"nwell\", role = \"background\", layer = 21, datatype = 0, width = 6, space = 6}]\nenclose = [{cut = \"contact\", mask = \"metal1\", number = 1}, {cut = \"contact\", mask = \"gate\", number = 1}, {cut = \"contact\", mask = \"active\", number = 1}]\nchannel = {cap = 2, ext = 3, cross = 1}\napart = [{a = \"contact\", on = \"gate\", b = \"active\", number = 2}, {a = \"contact\", on = \"active\", b = \"gate\", number = 2}]\nkind = [{name = \"nmos\", device = true, inside = [{mask = \"nplus\", number = 2}], outside = [{mask = \"pplus\", number = 2}, {mask = \"nwell\", number = 3}]}, {name = \"pmos\", device = true, inside = [{mask = \"pplus\", number = 2}, {mask = \"nwell\", number = 3}], outside = [{mask = \"nplus\", number = 2}]}, {name = \"ptap\", device = false, inside = [{mask = \"pplus\", number = 2}], outside = [{mask = \"nplus\", number = 2}, {mask = \"nwell\", number = 3}]}, {name = \"ntap\", device = false, inside = [{mask = \"nplus\", number = 2}, {mask = \"nwell\", number = 3}], outside = [{mask = \"pplus\", number = 2}]}]\n";
+
+const TRANSISTOR_SIZES: &str =
+    "version = 1\ncell = \"TOP\"\nmirror = \"none\"\nkind = [{name = \"nmos\", length = 2, width = 6}, {name = \"pmos\", length = 2, width = 12}]\ndevice = [{index = 0, length = 4, width = 8}]\n";
+
+// Tables of a transistor, what follows of them, and what is said.
+const TRANSISTORS: [(&str, &str, u8, &str); 4] = [
+    (SOURCE_TABLE, TARGET_TABLE, 30, "not built\n"),
+    (SOURCE_TABLE, SOURCE_TABLE, 30, "not built\n"),
+    (
+        ON_ACTIVE_ALONE,
+        TARGET_TABLE,
+        4,
+        "source table: apart: Missing\n",
+    ),
+    (
+        SOURCE_TABLE,
+        APARTS_EXCHANGED,
+        4,
+        "tables differ: apart.0.b\n",
+    ),
+];
+
+#[test]
+fn reads_the_tables_of_a_transistor(rt: HostRuntime) -> Result<(), Fail> {
+    let alloc = rt.alloc();
+    let words = words_with(alloc, 0, "retarget")?;
+    let mut given = one_rectangle(alloc)?;
+    given.sizes = String::from_str(alloc, TRANSISTOR_SIZES)?;
+    for (source, target, status, line) in &TRANSISTORS {
+        given.stable = String::from_str(alloc, source)?;
+        given.ttable = String::from_str(alloc, target)?;
+        let mut desk = desk_with(alloc, &given)?;
+        assert_eq!(rt; run(alloc, &words, &mut desk), Status(*status), "{line}");
+        assert!(rt; holds(&desk, &given, None), "{line}");
+        assert!(rt; says(&desk, (line, "")), "{line}");
+    }
     Ok(())
 }
 

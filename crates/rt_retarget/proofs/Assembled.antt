@@ -1,27 +1,24 @@
 -- From the parts of a run to the relation of the headline.
 use Rattle.std.proofs.Common.{◌≡◌, ℕ, ◌+◌, ◌<◌, ◌≤◌, ℤ, pos, ◌+ℤ◌, ◌<ℤ◌, ◌≤ℤ◌, List, [], length, map, None, inr, ap, ◌∙◌, sym, subst, arith}
 use Rattle.std.proofs.lemmas.Int.{ints}
-use Rattle.std.specs.Prelude.{All}
 use Rattle.rt_cells.specs.Rectangles.{IsNonempty}
 use Rattle.rt_cells.proofs.Times.{times_lt}
 use Rattle.gds_stream.specs.declared.library.Library.{Library}
-use Rattle.gds_stream.specs.declared.library.Structure.{Structure}
 use Rattle.gds_stream.specs.Contents.{Stream}
-use Rattle.gds_lawful.specs.Lawful.{IsLawfulStructure}
 use Rattle.gds_lawful.proofs.LawfulValues.{stream_is_lawful}
 use Rattle.rt_rows.specs.declared.row.Var.{Var}
 use Rattle.rt_rows.specs.declared.row.Var.TheVariants.{L, R, B, T}
 use Rattle.rt_rows.specs.declared.name.Name.TheVariants.{Wide, Tall}
 use Rattle.rt_tech.specs.declared.table.Tech.{Tech}
 use Rattle.rt_tech.specs.declared.table.Which.TheVariants.{Source, Target}
-use Rattle.rt_tech.specs.Tech.{IsMeasured}
+use Rattle.rt_tech.specs.Tech.{mask_count, IsMeasured}
 use Rattle.rt_sizes.specs.declared.given.Sizes.{Sizes}
 use Rattle.rt_sizes.specs.Wishes.{wishes_fault}
 use Rattle.rt_tech.proofs.Measured.{measured}
 use Rattle.rt_tables.proofs.Valid.{valid_table}
 use Rattle.rt_template.specs.declared.job.Job.{Job}
 use Rattle.rt_template.specs.declared.job.Strip.{Strip}
-use Rattle.rt_template.specs.Strips.{Placed, placed}
+use Rattle.rt_template.specs.Strips.{Placed, placed, mask_of}
 use Rattle.rt_template.specs.Standing.{IsStrip}
 use Rattle.rt_template.specs.Across.{strips_of, width_wanted, MeetsAcross}
 use Rattle.rt_template.specs.Upwards.{MeetsUpwards}
@@ -30,15 +27,16 @@ use Rattle.rt_template.specs.Rules.{BreaksNoRule, IsFirstBreach}
 use Rattle.rt_carry.proofs.Valid.{width_positive}
 use Rattle.rt_carry.proofs.Carrying.{beyond_holds, drawings_keep}
 use Rattle.rt_retarget.specs.Thin.{AreFiles, AreBuilt, ThinInput, IsThinLayout}
-use Rattle.rt_retarget.specs.Layout.{IsSourceLayout, IsFlatLayout}
+use Rattle.rt_retarget.specs.Layout.{IsSourceLayout, IsFlatLayout, rectangles_in}
 use Rattle.rt_retarget.specs.Moved.{Moved, IsMovedOut, drawing_of}
 use Rattle.rt_retarget.specs.declared.answer.Fault.{Fault}
-use Rattle.rt_retarget.specs.declared.answer.Fault.TheVariants.{TableToml, BadTable, TablesDiffer, SizesToml, BadSizes, NotBuilt, BadStream, SourceRule, OutOfMemory}
+use Rattle.rt_retarget.specs.declared.answer.Fault.TheVariants.{TableToml, BadTable, TablesDiffer, SizesToml, BadSizes, NotBuilt, BadStream, Unflattened, SourceRule, OutOfMemory}
 use Rattle.rt_retarget.specs.Answers.{IsDone, IsFaultOf}
-use Rattle.rt_retarget.specs.Stages.{IsSourceFaultOf, IsStrayFaultOf}
+use Rattle.rt_retarget.specs.Stages.{IsFlatFaultOf, IsSourceFaultOf, IsStrayFaultOf}
 use Rattle.rt_retarget.specs.Making.{IsThinJob, IsJobOf, IsWrittenFor, IsThinCase}
-use Rattle.rt_retarget.proofs.Items.{as_many, on_mask}
-use Rattle.rt_retarget.proofs.Flattened.{source_layout, drawn_layout, drawables}
+use Rattle.rt_retarget.proofs.Items.{on_mask}
+use Rattle.rt_retarget.proofs.Cells.{IsCellOf, reached_cell}
+use Rattle.rt_retarget.proofs.Flattened.{drawn_layout, drawables}
 
 past : (low by high : ℤ) → pos 1 ≤ℤ by → (low +ℤ by) ≤ℤ high → low <ℤ high
 past low by high h k = omega (arith, ints)
@@ -78,6 +76,11 @@ moved_out job library cell bytes thin w =
       clean = drawings_keep job w.at thin.separate thin.source thin.target meets_across meets_upwards;
     }
 
+-- the layout of a thin source
+source_layout : (source target : Tech) (library : Library) (cell : List ℕ) (layout : List Placed) → IsThinLayout library cell source target layout → IsSourceLayout source library cell layout
+source_layout source target library cell layout thin =
+    record { flat = thin.flat; flattened = thin.flattened; no_labels = thin.thin.no_labels; rectangles = thin.rectangles }
+
 -- the parts of a run make up the relation of the headline
 pub moved : (source stable ttable sizes out : List ℕ) (library : Library) (asked : Sizes) (s t : Tech) (layout : List Placed) (job : Job)
     → Stream source library → AreFiles stable ttable sizes s t asked → IsThinLayout library asked.cell s t layout → BreaksNoRule s layout
@@ -100,28 +103,50 @@ moved source stable ttable sizes out library asked s t layout job stream files l
   to = moved_out job library asked.cell out is_job.thin w;
 }
 
+-- each rectangle of a thin layout is on a mask of the source's table
+on_source : (s t : Tech) (library : Library) (cell : List ℕ) (layout : List Placed) → IsThinLayout library cell s t layout → (i : ℕ) → i < length layout
+    → mask_of layout i < mask_count s
+on_source s t library cell layout laid i h =
+    let there : i < length (rectangles_in laid.flat) = subst (λ (z : List Placed). i < length z) laid.rectangles h in
+    let low = on_mask laid.flat i there in
+    let masks = laid.flattened.flat.masks in
+    subst (λ (z : List Placed). mask_of z i < mask_count s) (sym laid.rectangles) (omega (arith, low, masks))
+
 -- thin input that was read and laid out
 pub thin_case : (source stable ttable sizes : List ℕ) (library : Library) (asked : Sizes) (s t : Tech) (rectangles : List Strip)
     → AreFiles stable ttable sizes s t asked → AreBuilt s asked → Stream source library → IsThinLayout library asked.cell s t (map placed rectangles)
     → IsThinCase source stable ttable sizes library asked s t (map placed rectangles)
-thin_case source stable ttable sizes library asked s t rectangles files built stream laid =
-    let n = as_many s laid.elements (map placed rectangles) laid.items in
-    record {
-      files = files;
-      built = built;
-      stream = stream;
-      laid_out = laid;
-      source_valid = measured s (valid_table Source stable s files.tables.source_read);
-      target_valid = measured t (valid_table Target ttable t files.tables.target_read);
-      on_masks = record { masks = λ i h. on_mask s laid.elements (map placed rectangles) laid.items i h.below_count };
-      few = omega (arith, n, laid.few);
-    }
+thin_case source stable ttable sizes library asked s t rectangles files built stream laid = record {
+  files = files;
+  built = built;
+  stream = stream;
+  laid_out = laid;
+  source_valid = measured s (valid_table Source stable s files.tables.source_read);
+  target_valid = measured t (valid_table Target ttable t files.tables.target_read);
+  on_masks = record { masks = λ i h. on_source s t library asked.cell (map placed rectangles) laid i h.below_count };
+  few = subst (λ (z : List Placed). length z ≤ 120) (sym laid.rectangles) laid.thin.few;
+}
 
 -- thin input, from its parts
 abbrev thin_of : (source stable ttable sizes : List ℕ) (library : Library) (asked : Sizes) (s t : Tech) (layout : List Placed)
     → IsThinCase source stable ttable sizes library asked s t layout → ThinInput source stable ttable sizes
 thin_of source stable ttable sizes library asked s t layout thin =
     record { source_table = s; target_table = t; asked = asked; library = library; layout = layout; files = thin.files; built = thin.built; stream = thin.stream; laid_out = thin.laid_out }
+
+-- a refusal to flatten is a refusal of the files
+pub fault_of_flat : (source stable ttable sizes : List ℕ) (library : Library) (asked : Sizes) (s t : Tech) → AreFiles stable ttable sizes s t asked → AreBuilt s asked
+    → Stream source library → (fault : Fault) → IsFlatFaultOf library.structures asked.cell s fault → IsFaultOf source stable ttable sizes fault
+fault_of_flat source stable ttable sizes library asked s t files built stream (Unflattened error) h =
+    record { source_table = s; target_table = t; asked = asked; library = library; files = files; built = built; stream = stream; refused = h }
+fault_of_flat source stable ttable sizes library asked s t files built stream (TableToml which) h = absurd h
+fault_of_flat source stable ttable sizes library asked s t files built stream (BadTable which key cause) h = absurd h
+fault_of_flat source stable ttable sizes library asked s t files built stream (TablesDiffer key) h = absurd h
+fault_of_flat source stable ttable sizes library asked s t files built stream SizesToml h = absurd h
+fault_of_flat source stable ttable sizes library asked s t files built stream (BadSizes key cause) h = absurd h
+fault_of_flat source stable ttable sizes library asked s t files built stream NotBuilt h = absurd h
+fault_of_flat source stable ttable sizes library asked s t files built stream (BadStream offset cause) h = absurd h
+fault_of_flat source stable ttable sizes library asked s t files built stream (SourceRule rule mask p q found needed) h = absurd h
+fault_of_flat source stable ttable sizes library asked s t files built stream OutOfMemory h = absurd h
 
 -- a refusal of the layout is a refusal of the files
 pub fault_of_rules : (source stable ttable sizes : List ℕ) (library : Library) (asked : Sizes) (s t : Tech) (rectangles seen : List Strip)
@@ -140,6 +165,7 @@ fault_of_rules source stable ttable sizes library asked s t rectangles seen thin
 fault_of_rules source stable ttable sizes library asked s t rectangles seen thin same (BadSizes key cause) h = absurd h
 fault_of_rules source stable ttable sizes library asked s t rectangles seen thin same NotBuilt h = absurd h
 fault_of_rules source stable ttable sizes library asked s t rectangles seen thin same (BadStream offset cause) h = absurd h
+fault_of_rules source stable ttable sizes library asked s t rectangles seen thin same (Unflattened error) h = absurd h
 
 -- a refusal of stray sizes is a refusal of the files
 pub fault_of_strays : (source stable ttable sizes : List ℕ) (library : Library) (asked : Sizes) (s t : Tech) (rectangles seen : List Strip)
@@ -157,6 +183,7 @@ fault_of_strays source stable ttable sizes library asked s t rectangles seen thi
 fault_of_strays source stable ttable sizes library asked s t rectangles seen thin same kept SizesToml h = absurd h
 fault_of_strays source stable ttable sizes library asked s t rectangles seen thin same kept NotBuilt h = absurd h
 fault_of_strays source stable ttable sizes library asked s t rectangles seen thin same kept (BadStream offset cause) h = absurd h
+fault_of_strays source stable ttable sizes library asked s t rectangles seen thin same kept (Unflattened error) h = absurd h
 fault_of_strays source stable ttable sizes library asked s t rectangles seen thin same kept (SourceRule rule mask p q found needed) h = absurd h
 
 -- the parts of a run that ends well
@@ -177,16 +204,19 @@ done source stable ttable sizes out bytes library asked s t rectangles seen job 
 pub library_short : (source : List ℕ) (library : Library) → Stream source library → length library.name ≤ 65530
 library_short source library stream = (stream_is_lawful source library stream).short
 
+-- the cell that is flattened is one of the library's
+cell_of : (source : List ℕ) (library : Library) (cell : List ℕ) (s t : Tech) (layout : List Placed) → Stream source library
+    → IsThinLayout library cell s t layout → IsCellOf cell
+cell_of source library cell s t layout stream thin =
+    let sound = thin.flattened.accepted.sound in
+    reached_cell library.structures cell sound.order (stream_is_lawful source library stream).structures sound.reached
+
 -- and so does the cell's
 pub cell_short : (source : List ℕ) (library : Library) (cell : List ℕ) (s t : Tech) (layout : List Placed) → Stream source library
     → IsThinLayout library cell s t layout → length cell ≤ 65530
-cell_short source library cell s t layout stream thin =
-    let all = subst (λ (structures : List Structure). All IsLawfulStructure structures) thin.one_structure (stream_is_lawful source library stream).structures in
-    (all 0 (record { name = cell; elements = thin.elements }) (omega arith)).short
+cell_short source library cell s t layout stream thin = (cell_of source library cell s t layout stream thin).short
 
 -- and it isn't empty
 pub cell_named : (source : List ℕ) (library : Library) (cell : List ℕ) (s t : Tech) (layout : List Placed) → Stream source library
     → IsThinLayout library cell s t layout → 0 < length cell
-cell_named source library cell s t layout stream thin =
-    let all = subst (λ (structures : List Structure). All IsLawfulStructure structures) thin.one_structure (stream_is_lawful source library stream).structures in
-    (all 0 (record { name = cell; elements = thin.elements }) (omega arith)).named
+cell_named source library cell s t layout stream thin = (cell_of source library cell s t layout stream thin).named

@@ -1,4 +1,4 @@
--- The layouts that a source and a written cell draw.
+-- The layout that a written cell draws.
 use Rattle.std.proofs.Common.{◌≡◌, ℕ, suc, zero, ◌+◌, ◌<◌, ℤ, List, [], ◌∷◌, ◌++◌, length, map, Some, None, Option, refl, ap, ◌∙◌, subst, arith}
 use Rattle.std.specs.Prelude.{slice_get}
 use Rattle.std.specs.List.{AllZip, AllByRecursion}
@@ -16,22 +16,7 @@ use Rattle.rt_rows.specs.declared.row.Var.{Var}
 use Rattle.rt_template.specs.Strips.{Placed, mask_of}
 use Rattle.rt_template.specs.Drawing.{drawn_area, drawn_from}
 use Rattle.rt_carry.specs.Shapes.{shape_of, layer_of_mask, datatype_of_mask}
-use Rattle.rt_retarget.specs.Layout.{IsMaskOfPair, IsItem, IsSourceItem, IsSourceLayout, IsFlatLayout}
-use Rattle.rt_retarget.specs.Thin.{IsThinItem, IsThinLayout}
-
-drawn_elements : (tech : Tech) (elements : List Element) (layout : List Placed) → AllZip (IsThinItem tech) elements layout → AllZip (IsSourceItem tech) elements layout
-drawn_elements tech [] [] a = tt
-drawn_elements tech [] (p ∷ layout) a = absurd a
-drawn_elements tech (e ∷ elements) [] a = absurd a
-drawn_elements tech (e ∷ elements) (p ∷ layout) a = (a.0.drawn, drawn_elements tech elements layout a.1)
-
--- the layout of a thin source
-pub source_layout : (source target : Tech) (library : Library) (cell : List ℕ) (layout : List Placed) → IsThinLayout library cell source target layout → IsSourceLayout source library cell layout
-source_layout source target library cell layout thin = record {
-  elements = thin.elements;
-  one_structure = thin.one_structure;
-  items = drawn_elements source thin.elements layout thin.items;
-}
+use Rattle.rt_retarget.specs.Layout.{IsMaskOfPair, IsItem, IsFlatLayout}
 
 no_labels : (labels : List Element) (texts : List Note) → texts ≡ [] → AllZip IsLabelOf labels texts → labels ≡ []
 no_labels [] texts e a = refl

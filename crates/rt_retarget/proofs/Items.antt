@@ -1,143 +1,120 @@
--- Rectangles on masks, one by one.
-use Rattle.std.proofs.Common.{◌≡◌, ℕ, suc, zero, ◌+◌, ◌<◌, ◌≤◌, ℤ, List, [], ◌∷◌, ◌++◌, length, map, take, get_or, ap, ◌∙◌, sym, subst, arith, refl, inl, inr}
-use Rattle.std.specs.Prelude.{AllPairs}
-use Rattle.std.specs.List.{AllZip}
-use Rattle.std.proofs.lemmas.Bool.{cases_lt}
-use Rattle.std.proofs.lemmas.List.{take_more, map_push, length-map}
-use Rattle.std.proofs.lemmas.Option.{get_or_from_slice_get, slice_get_within}
-use Rattle.rt_cells.specs.Rectangles.{Rectangle}
-use Rattle.gds_stream.specs.declared.library.Element.{Element}
-use Rattle.gds_stream.specs.declared.library.Library.{Library}
-use Rattle.rt_tech.specs.declared.table.Mask.{Mask}
-use Rattle.rt_tech.specs.declared.table.Tech.{Tech}
-use Rattle.rt_tech.specs.Tech.{pair_of, mask_count, AreDistinct, IsMeasured}
+-- The rectangles of a flat layout, mask by mask.
+use Rattle.std.proofs.Common.{◌≡◌, ℕ, suc, zero, ◌+◌, ◌<◌, ◌≤◌, List, [], ◌∷◌, ◌++◌, length, map, take, drop, get_or, ap, ◌∙◌, sym, subst, arith, refl}
+use Rattle.std.specs.Prelude.{All, slice_index_or}
+use Rattle.std.proofs.lemmas.List.{length-map, length-append, append-nil, append_assoc, take_more, take_all, map-append}
+use Rattle.std.proofs.Math.Seq.{drop-cons}
+use Rattle.std.proofs.Math.Numerals.{suc-eq-add-one}
+use Rattle.std.proofs.Math.ListN.{drop_of_length-le}
+use Rattle.std.proofs.lemmas.List.Elements.{All-nil, All-append, All-map}
+use Rattle.rt_base.specs.declared.plane.Rect.{Rect}
+use Rattle.rt_base.specs.Plane.{area}
+use Rattle.rt_layout.specs.declared.layout.Layout.{Layout as FlatLayout}
+use Rattle.rt_layout.specs.Covering.{rectangles_of}
 use Rattle.rt_template.specs.declared.job.Strip.{Strip}
-use Rattle.rt_template.specs.Strips.{Placed, placed, mask_of}
-use Rattle.rt_base.specs.declared.plane.Point.{Point}
-use Rattle.gds_stream.specs.declared.library.Structure.{Structure}
-use Rattle.rt_retarget.specs.Layout.{IsMaskOfPairIn, IsRound, IsOneStructure}
-use Rattle.rt_retarget.specs.Thin.{IsThinItem, AreThin, IsThinLayout}
-use Rattle.rt_retarget.proofs.Rounds.{one_rectangle, same_polygon}
+use Rattle.rt_template.specs.Strips.{Placed, placed, no_strip}
+use Rattle.rt_retarget.specs.Layout.{placed_on, placed_from, rectangles_in}
 
--- the mask that was read is not of the pair
-pub not_this : (masks : List Mask) (layer datatype : ℤ) (m : ℕ) (mask : Mask) → mask ≡ get_or masks m mask
-    → (pair_of mask ≡ (layer, datatype) → ⊥) → IsMaskOfPairIn masks layer datatype m → ⊥
-not_this masks layer datatype m mask e not is = not (ap pair_of (e ∙ get_or_from_slice_get masks m is.mask mask is.is_mask) ∙ is.pair)
+-- the rectangle is on a mask below the number
+abbrev pub IsBelow : ℕ → Placed → Type 0
+IsBelow n p = p.mask < n
 
--- none of all the masks is of the pair
-pub none_of_all : (masks : List Mask) (layer datatype : ℤ) (m : ℕ) → length masks ≤ m
-    → ((k : ℕ) → k < m → IsMaskOfPairIn masks layer datatype k → ⊥) → (k : ℕ) → IsMaskOfPairIn masks layer datatype k → ⊥
-none_of_all masks layer datatype m h none k is =
-    let l : k < length masks = slice_get_within masks k is.mask is.is_mask in
-    none k (omega arith) is
+on_one : (n m : ℕ) → m < n → (rects : List Rect) → All (IsBelow n) (placed_on m rects)
+on_one n m h rects = All-map (IsBelow n) (λ r. record { mask = m; area = area r }) rects (λ i x below. h)
 
--- the element of a number is on a mask, where all are
-item_at : (tech : Tech) (elements : List Element) (layout : List Placed) (i : ℕ) (element : Element) → i < length elements → AllZip (IsThinItem tech) elements layout
-    → (item : Placed) × IsThinItem tech (get_or elements i element) item
-item_at tech [] layout i element h all = absurd (omega arith)
-item_at tech (s ∷ elements) [] i element h all = absurd all
-item_at tech (s ∷ elements) (p ∷ layout) zero element h all = (p, all.0)
-item_at tech (s ∷ elements) (p ∷ layout) (suc i) element h all = item_at tech elements layout i element (omega arith) all.1
+below_from : (n m : ℕ) (masks : List (List Rect)) → m + length masks ≤ n → All (IsBelow n) (placed_from m masks)
+below_from n m [] h = All-nil (IsBelow n)
+below_from n m (rects ∷ masks) h =
+    All-append (IsBelow n) (placed_on m rects) (placed_from (m + 1) masks) (on_one n m (omega arith) rects) (below_from n (m + 1) masks (omega arith))
 
--- an element that is on no mask leaves the elements with no layout
-pub no_layout_at : (tech : Tech) (elements : List Element) (i : ℕ) (e : Element) → i < length elements → e ≡ get_or elements i e
-    → ((item : Placed) → IsThinItem tech e item → ⊥) → (layout : List Placed) → AllZip (IsThinItem tech) elements layout → ⊥
-no_layout_at tech elements i e h here none layout all =
-    let (item, is) = item_at tech elements layout i e h all in none item (subst (λ (z : Element). IsThinItem tech z item) (sym here) is)
+-- each rectangle of a flat layout is on one of its masks
+pub on_mask : (flat : FlatLayout) (i : ℕ) → i < length (rectangles_in flat) → (slice_index_or (rectangles_in flat) i no_strip).mask < length flat.masks
+on_mask flat i h = below_from (length flat.masks) 0 flat.masks (omega arith) i no_strip h
 
--- one more element, and its item
-items_push : (tech : Tech) (elements : List Element) (layout : List Placed) (element : Element) (item : Placed) → AllZip (IsThinItem tech) elements layout → IsThinItem tech element item
-    → AllZip (IsThinItem tech) (elements ++ element ∷ []) (layout ++ item ∷ [])
-items_push tech [] [] element item all is = (is, tt)
-items_push tech [] (p ∷ layout) element item all is = absurd all
-items_push tech (s ∷ elements) [] element item all is = absurd all
-items_push tech (s ∷ elements) (p ∷ layout) element item all is = (all.0, items_push tech elements layout element item all.1 is)
-
-pub one_more_item : (tech : Tech) (elements : List Element) (strips strips' : List Strip) (i : ℕ) (e : Element) (strip : Strip) → i < length elements → e ≡ get_or elements i e
-    → AllZip (IsThinItem tech) (take i elements) (map placed strips) → IsThinItem tech e (placed strip) → strips' ≡ strips ++ strip ∷ []
-    → AllZip (IsThinItem tech) (take (i + 1) elements) (map placed strips')
-one_more_item tech elements strips strips' i e strip h here all is f =
-    rw (take_more elements i e h, f, map_push placed strips strip)
-    (items_push tech (take i elements) (map placed strips) (get_or elements i e) (placed strip) all (subst (λ (z : Element). IsThinItem tech z (placed strip)) here is))
-
--- there are as many items as elements
-pub as_many : (tech : Tech) (elements : List Element) (layout : List Placed) → AllZip (IsThinItem tech) elements layout → length layout ≡ length elements
-as_many tech [] [] all = refl
-as_many tech [] (p ∷ layout) all = absurd all
-as_many tech (s ∷ elements) [] all = absurd all
-as_many tech (s ∷ elements) (p ∷ layout) all = ap suc (as_many tech elements layout all.1)
-
--- the pairs of a valid table differ
-pairs_differ : (masks : List Mask) → AllPairs AreDistinct masks → (layer datatype : ℤ) (m k : ℕ) → IsMaskOfPairIn masks layer datatype m → IsMaskOfPairIn masks layer datatype k → m < k → ⊥
-pairs_differ masks apart layer datatype m k a b lt =
-    let there : k < length masks = slice_get_within masks k b.mask b.is_mask in
-    let differ = apart m k a.mask lt there in
-    differ.pairs (ap pair_of (get_or_from_slice_get masks m a.mask a.mask a.is_mask) ∙ a.pair ∙ sym b.pair ∙ sym (ap pair_of (get_or_from_slice_get masks k b.mask a.mask b.is_mask)))
-
-one_mask : (masks : List Mask) → AllPairs AreDistinct masks → (layer datatype : ℤ) (m k : ℕ) → IsMaskOfPairIn masks layer datatype m → IsMaskOfPairIn masks layer datatype k → m ≡ k
-one_mask masks apart layer datatype m k a b =
-    elim (cases_lt m k) [
-      | inl lt ↦ absurd (pairs_differ masks apart layer datatype m k a b lt)
-      | inr le ↦ elim (cases_lt k m) [
-        | inl lt ↦ absurd (pairs_differ masks apart layer datatype k m b a lt)
-        | inr ge ↦ omega arith
-      ]
-    ]
-
-same_placed : (p q : Placed) → p.mask ≡ q.mask → p.area ≡ q.area → p ≡ q
-same_placed p q a b =
-    let with_mask : ℕ → Placed = λ m. record { mask = m; area = p.area } in
-    let with_area : Rectangle → Placed = λ r. record { mask = q.mask; area = r } in
-    ap with_mask a ∙ ap with_area b
-
--- two draw the same rectangle
-pub one_item : (tech : Tech) → IsMeasured tech → (element : Element) (p q : Placed) → IsThinItem tech element p → IsThinItem tech element q → p ≡ q
-one_item tech valid element p q f g =
-    let same = same_polygon element f.drawn g.drawn in
-    same_placed p q
-    (one_mask tech.masks valid.apart f.drawn.layer f.drawn.datatype p.mask q.mask f.drawn.on_mask
-    (subst (λ (l : ℤ). IsMaskOfPairIn tech.masks l f.drawn.datatype q.mask) (sym same.layer)
-    (subst (λ (d : ℤ). IsMaskOfPairIn tech.masks g.drawn.layer d q.mask) (sym same.datatype) g.drawn.on_mask)))
-    (one_rectangle f.drawn.points p.area q.area f.drawn.round (subst (λ (points : List Point). IsRound points q.area) (sym same.points) g.drawn.round) f.drawn.nonempty g.drawn.nonempty)
-
--- the elements have one layout at most
-pub one_layout : (tech : Tech) → IsMeasured tech → (elements : List Element) (a b : List Placed) → AllZip (IsThinItem tech) elements a → AllZip (IsThinItem tech) elements b → a ≡ b
-one_layout tech valid [] [] [] f g = refl
-one_layout tech valid [] [] (q ∷ b) f g = absurd g
-one_layout tech valid [] (p ∷ a) b f g = absurd f
-one_layout tech valid (e ∷ elements) [] b f g = absurd f
-one_layout tech valid (e ∷ elements) (p ∷ a) [] f g = absurd g
-one_layout tech valid (e ∷ elements) (p ∷ a) (q ∷ b) f g =
-    let here = one_item tech valid e p q f.0 g.0 in
-    let rest = one_layout tech valid elements a b f.1 g.1 in
+same_on : (m : ℕ) (xs ys : List Rect) → map area xs ≡ map area ys → placed_on m xs ≡ placed_on m ys
+same_on m [] [] e = refl
+same_on m [] (y ∷ ys) e = absurd cc
+same_on m (x ∷ xs) [] e = absurd cc
+same_on m (x ∷ xs) (y ∷ ys) e =
+    let head : area x ≡ area y = cc in
+    let tail : map area xs ≡ map area ys = cc in
+    let rest = same_on m xs ys tail in
+    let first : Placed = record { mask = m; area = area x } in
+    let here : first ≡ record { mask = m; area = area y } = rw head refl in
     cc
 
--- a library is one structure with one list of elements
-pub one_list : (library : Library) (cell : List ℕ) (a b : List Element) → IsOneStructure library cell a → IsOneStructure library cell b → a ≡ b
-one_list library cell a b e f = ap elements_of_first (sym e ∙ f)
-  where
-    elements_of_first : List Structure → List Element
-    elements_of_first [] = []
-    elements_of_first (s ∷ structures) = s.elements
+-- lists of rectangles that are equal mask by mask are the same rectangles
+same_from : (m : ℕ) (xs ys : List (List Rect)) → length xs ≡ length ys
+    → ((k : ℕ) → map area (slice_index_or xs k []) ≡ map area (slice_index_or ys k [])) → placed_from m xs ≡ placed_from m ys
+same_from m [] [] n e = refl
+same_from m [] (y ∷ ys) n e = absurd (omega (arith, n))
+same_from m (x ∷ xs) [] n e = absurd (omega (arith, n))
+same_from m (x ∷ xs) (y ∷ ys) n e =
+    let rest = same_from (m + 1) xs ys (omega (arith, n)) (λ k. e (suc k)) in
+    rw (same_on m x y (e 0), rest) refl
 
--- the rectangles that were found are the layout, so that it is thin where they are
-pub found_is_thin : (library : Library) (cell : List ℕ) (source target : Tech) → IsMeasured source → (elements : List Element) → IsOneStructure library cell elements
-    → (strips : List Placed) → AllZip (IsThinItem source) elements strips
-    → (layout : List Placed) → IsThinLayout library cell source target layout → AreThin target strips
-found_is_thin library cell source target valid elements one strips all layout thin =
-    let items = subst (λ (es : List Element). AllZip (IsThinItem source) es layout) (one_list library cell thin.elements elements thin.one_structure one) thin.items in
-    subst (AreThin target) (one_layout source valid elements layout strips items all) thin.thin
+-- two layouts with equal rectangles on each mask have the same rectangles
+pub same_rectangles : (f g : FlatLayout) → length f.masks ≡ length g.masks → ((m : ℕ) → map area (rectangles_of f m) ≡ map area (rectangles_of g m))
+    → rectangles_in f ≡ rectangles_in g
+same_rectangles f g n e = same_from 0 f.masks g.masks n e
 
--- there are as many strips as elements, at most the limit
-pub few_strips : (source : Tech) (elements : List Element) (strips seen : List Strip) → AllZip (IsThinItem source) elements (map placed strips) → length elements ≤ 120 → seen ≡ strips → length seen ≤ 120
-few_strips source elements strips seen all few e =
-    let n = as_many source elements (map placed strips) all in
-    rw e (omega (arith, n, length-map strips placed))
+split : (masks : List (List Rect)) (i : ℕ) (rects : List Rect) → i < length masks → rects ≡ get_or masks i rects → drop i masks ≡ rects ∷ drop (i + 1) masks
+split masks i rects h here =
+    subst (λ (k : ℕ). drop i masks ≡ rects ∷ drop k masks) (suc-eq-add-one i)
+    (drop-cons masks i rects h ∙ ap (λ (r : List Rect). r ∷ drop (suc i) masks) (sym here))
 
--- each item is on a mask of the table
-pub on_mask : (tech : Tech) (elements : List Element) (layout : List Placed) → AllZip (IsThinItem tech) elements layout → (i : ℕ) → i < length layout → mask_of layout i < mask_count tech
-on_mask tech [] [] all i h = absurd (omega arith)
-on_mask tech [] (p ∷ layout) all i h = absurd all
-on_mask tech (s ∷ elements) [] all i h = absurd (omega arith)
-on_mask tech (s ∷ elements) (p ∷ layout) all zero h = slice_get_within tech.masks p.mask all.0.drawn.on_mask.mask all.0.drawn.on_mask.is_mask
-on_mask tech (s ∷ elements) (p ∷ layout) all (suc i) h = on_mask tech elements layout all.1 i (omega arith)
+-- the rectangles of one mask more, and those of the masks behind it
+pub one_mask_more : (masks : List (List Rect)) (i : ℕ) (rects : List Rect) (strips more : List Placed) → i < length masks → rects ≡ get_or masks i rects
+    → placed_from 0 masks ≡ strips ++ placed_from i (drop i masks) → more ≡ strips ++ placed_on i rects
+    → placed_from 0 masks ≡ more ++ placed_from (i + 1) (drop (i + 1) masks)
+one_mask_more masks i rects strips more h here all e =
+    rw (e, append_assoc strips (placed_on i rects) (placed_from (i + 1) (drop (i + 1) masks)))
+    (subst (λ (rest : List (List Rect)). placed_from 0 masks ≡ strips ++ placed_from i rest) (split masks i rects h here) all)
+
+-- no mask is left
+pub no_mask_left : (masks : List (List Rect)) (i : ℕ) (strips : List Placed) → length masks ≤ i
+    → placed_from 0 masks ≡ strips ++ placed_from i (drop i masks) → strips ≡ placed_from 0 masks
+no_mask_left masks i strips h all =
+    sym (subst (λ (rest : List (List Rect)). placed_from 0 masks ≡ strips ++ placed_from i rest) (drop_of_length-le masks h) all ∙ append-nil strips)
+
+-- there are more rectangles than those of the masks so far and of one more
+pub many_more : (masks : List (List Rect)) (i : ℕ) (rects : List Rect) (strips : List Placed) (n : ℕ) → i < length masks → rects ≡ get_or masks i rects
+    → placed_from 0 masks ≡ strips ++ placed_from i (drop i masks) → n < length strips + length rects → n < length (placed_from 0 masks)
+many_more masks i rects strips n h here all few =
+    let behind = placed_from (i + 1) (drop (i + 1) masks) in
+    let whole = subst (λ (rest : List (List Rect)). placed_from 0 masks ≡ strips ++ placed_from i rest) (split masks i rects h here) all in
+    let parts = length-append strips (placed_on i rects ++ behind) in
+    let mask = length-append (placed_on i rects) behind in
+    let count : length (placed_on i rects) ≡ length rects = length-map rects (λ r. record { mask = i; area = area r }) in
+    rw whole (omega (arith, parts, mask, count))
+
+-- strips that are pushed one by one
+pub no_rect_yet : (m : ℕ) (old : List Strip) (rects : List Rect) → map placed old ≡ map placed old ++ placed_on m (take 0 rects)
+no_rect_yet m old rects = sym (append-nil (map placed old))
+
+pub one_rect_more : (m : ℕ) (rects : List Rect) (i : ℕ) (rect : Rect) (old items more : List Strip) (s : Strip) → i < length rects → rect ≡ get_or rects i rect
+    → map placed items ≡ map placed old ++ placed_on m (take i rects) → more ≡ items ++ s ∷ [] → placed s ≡ record { mask = m; area = area rect }
+    → map placed more ≡ map placed old ++ placed_on m (take (i + 1) rects)
+one_rect_more m rects i rect old items more s h here pushed e is =
+    let one : List Placed = record { mask = m; area = area rect } ∷ [] in
+    let next : take (i + 1) rects ≡ take i rects ++ rect ∷ [] = take_more rects i rect h ∙ ap (λ (r : Rect). take i rects ++ r ∷ []) (sym here) in
+    let shown : placed_on m (take (i + 1) rects) ≡ placed_on m (take i rects) ++ one = ap (placed_on m) next ∙ map-append (λ r. record { mask = m; area = area r }) (take i rects) (rect ∷ []) in
+    ap (map placed) e ∙ map-append placed items (s ∷ []) ∙ ap (λ (p : Placed). map placed items ++ p ∷ []) is ∙ ap (λ (ps : List Placed). ps ++ one) pushed
+    ∙ append_assoc (map placed old) (placed_on m (take i rects)) one ∙ ap (λ (ps : List Placed). map placed old ++ ps) (sym shown)
+
+pub all_rects : (m : ℕ) (rects : List Rect) (i : ℕ) (old items : List Strip) → length rects ≤ i → map placed items ≡ map placed old ++ placed_on m (take i rects)
+    → map placed items ≡ map placed old ++ placed_on m rects
+all_rects m rects i old items over pushed = subst (λ (z : List Rect). map placed items ≡ map placed old ++ placed_on m z) (take_all i rects over) pushed
+
+pub pushed_few : (m : ℕ) (rects : List Rect) (old items : List Strip) → map placed items ≡ map placed old ++ placed_on m rects → length old + length rects ≤ 120
+    → length items ≤ 120
+pushed_few m rects old items all few =
+    let a : length (map placed items) ≡ length items = length-map items placed in
+    let b : length (map placed old) ≡ length old = length-map old placed in
+    let c : length (placed_on m rects) ≡ length rects = length-map rects (λ r. record { mask = m; area = area r }) in
+    let d = length-append (map placed old) (placed_on m rects) in
+    let e : length (map placed items) ≡ length (map placed old ++ placed_on m rects) = ap length all in
+    omega (arith, a, b, c, d, e, few)
+
+-- before the first mask
+pub nothing_so_far : (masks : List (List Rect)) (strips : List Strip) → strips ≡ [] → placed_from 0 masks ≡ map placed strips ++ placed_from 0 (drop 0 masks)
+nothing_so_far masks strips none = rw none refl

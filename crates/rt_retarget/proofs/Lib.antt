@@ -1,6 +1,6 @@
 pub mod Extents
-pub mod Rounds
 pub mod Items
+pub mod Cells
 pub mod Readings
 pub mod Flattened
 pub mod Assembled

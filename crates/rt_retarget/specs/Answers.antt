@@ -5,6 +5,9 @@ use Rattle.gds_grammar.specs.declared.cause.Cause.{Cause}
 use Rattle.gds_grammar.specs.Stops.{Stops}
 use Rattle.gds_stream.specs.declared.library.Library.{Library}
 use Rattle.gds_stream.specs.Contents.{Stream}
+use Rattle.gds_flat.specs.declared.error.FlatError.{FlatError}
+use Rattle.gds_flat.specs.Refused.{IsFlattened, FlatRefused}
+use Rattle.rt_layout.specs.declared.layout.Layout.{Layout as FlatLayout}
 use Rattle.toml.specs.Data.{Members}
 use Rattle.rt_tech.specs.declared.rules.RuleName.{RuleName}
 use Rattle.rt_tech.specs.declared.rules.RuleName.TheVariants.{Width, Space}
@@ -26,8 +29,8 @@ use Rattle.rt_template.specs.Rules.{BreaksNoRule, IsFirstBreach}
 use Rattle.rt_retarget.specs.declared.answer.Outcome.{Outcome}
 use Rattle.rt_retarget.specs.declared.answer.Outcome.TheVariants.{Done}
 use Rattle.rt_retarget.specs.declared.answer.Fault.{Fault}
-use Rattle.rt_retarget.specs.declared.answer.Fault.TheVariants.{TableToml, BadTable, TablesDiffer, SizesToml, BadSizes, NotBuilt, BadStream, SourceRule, OutOfMemory}
-use Rattle.rt_retarget.specs.Thin.{AreTables, AreFiles, AreBuilt, IsThinLayout, ThinInput}
+use Rattle.rt_retarget.specs.declared.answer.Fault.TheVariants.{TableToml, BadTable, TablesDiffer, SizesToml, BadSizes, NotBuilt, BadStream, Unflattened, SourceRule, OutOfMemory}
+use Rattle.rt_retarget.specs.Thin.{AreTables, AreFiles, AreBuilt, IsThin, ThinInput}
 use Rattle.rt_retarget.specs.Moved.{Moved}
 
 -- the bytes aren't a TOML document
@@ -87,8 +90,8 @@ pub record IsNoStream (source stable ttable sizes : List ℕ) (offset : ℕ) (ca
   pub built : AreBuilt source_table asked
   pub stops : Stops source offset cause
 
--- the same, and the source is a stream, but its library isn't the cell alone with a thin layout
-pub record HasNoThinLayout (source stable ttable sizes : List ℕ) : Type 0 where
+-- the same, and the source is a stream, but the library's cell isn't flattened by the source's table, for this reason
+pub record IsNotFlattened (source stable ttable sizes : List ℕ) (error : FlatError) : Type 0 where
   pub source_table : Tech
   pub target_table : Tech
   pub asked : Sizes
@@ -96,7 +99,20 @@ pub record HasNoThinLayout (source stable ttable sizes : List ℕ) : Type 0 wher
   pub files : AreFiles stable ttable sizes source_table target_table asked
   pub built : AreBuilt source_table asked
   pub stream : Stream source library
-  pub none : (layout : List Placed) → IsThinLayout library asked.cell source_table target_table layout → ⊥
+  pub refused : FlatRefused library.structures asked.cell source_table error
+
+-- the same, and the cell is flattened, but the flat layout isn't thin
+pub record HasNoThinLayout (source stable ttable sizes : List ℕ) : Type 0 where
+  pub source_table : Tech
+  pub target_table : Tech
+  pub asked : Sizes
+  pub library : Library
+  pub flat : FlatLayout
+  pub files : AreFiles stable ttable sizes source_table target_table asked
+  pub built : AreBuilt source_table asked
+  pub stream : Stream source library
+  pub flattened : IsFlattened library.structures asked.cell source_table flat
+  pub not_thin : IsThin target_table flat → ⊥
 
 -- the files ask for what isn't built yet
 abbrev pub IsNotBuilt : List ℕ → List ℕ → List ℕ → List ℕ → Type 0
@@ -146,5 +162,6 @@ IsFaultOf source stable ttable sizes SizesToml = HasNoSizes stable ttable sizes
 IsFaultOf source stable ttable sizes (BadSizes key cause) = HasBadSizes stable ttable sizes key cause ⊎ HasStraySizes source stable ttable sizes key cause
 IsFaultOf source stable ttable sizes NotBuilt = IsNotBuilt source stable ttable sizes
 IsFaultOf source stable ttable sizes (BadStream offset cause) = IsNoStream source stable ttable sizes offset cause
+IsFaultOf source stable ttable sizes (Unflattened error) = IsNotFlattened source stable ttable sizes error
 IsFaultOf source stable ttable sizes (SourceRule rule mask p q found needed) = IsUnsound source stable ttable sizes rule mask p q found needed
 IsFaultOf source stable ttable sizes OutOfMemory = Unit {0}

@@ -1,6 +1,5 @@
 pub mod Layout
 pub mod Thin
-pub mod Sides
 pub mod Moved
 pub mod Answers
 pub mod Stages

@@ -1,6 +1,8 @@
 -- What a refusal says of one file, or of what was read of it.
 use Rattle.std.specs.Prelude.{◌≡◌, ℕ, List, []}
 use Rattle.gds_grammar.specs.Stops.{Stops}
+use Rattle.gds_stream.specs.declared.library.Structure.{Structure}
+use Rattle.gds_flat.specs.Refused.{FlatRefused}
 use Rattle.rt_tech.specs.declared.table.Tech.{Tech}
 use Rattle.rt_tech.specs.declared.table.Which.{Which}
 use Rattle.rt_tech.specs.declared.table.Which.TheVariants.{Target}
@@ -15,7 +17,7 @@ use Rattle.rt_sizes.specs.Wishes.{wishes_fault}
 use Rattle.rt_template.specs.Strips.{Placed}
 use Rattle.rt_template.specs.Rules.{IsFirstBreach}
 use Rattle.rt_retarget.specs.declared.answer.Fault.{Fault}
-use Rattle.rt_retarget.specs.declared.answer.Fault.TheVariants.{TableToml, BadTable, TablesDiffer, SizesToml, BadSizes, BadStream, SourceRule, OutOfMemory}
+use Rattle.rt_retarget.specs.declared.answer.Fault.TheVariants.{TableToml, BadTable, TablesDiffer, SizesToml, BadSizes, BadStream, Unflattened, SourceRule, OutOfMemory}
 use Rattle.rt_retarget.specs.Answers.{IsNoDocument, IsNoTable, IsBadTable, AreOfTwoForms, HasNoSizes, HasBadSizes, mask_of_rule, IsMaskNamed}
 
 -- a refusal of a table, as a refusal of the job
@@ -56,6 +58,11 @@ abbrev pub IsStreamFaultOf : List ℕ → Fault → Type 0
 IsStreamFaultOf source (BadStream offset cause) = Stops source offset cause
 IsStreamFaultOf source OutOfMemory = Unit {0}
 IsStreamFaultOf source _ = ⊥
+
+-- of a library whose cell was to be flattened
+abbrev pub IsFlatFaultOf : List Structure → List ℕ → Tech → Fault → Type 0
+IsFlatFaultOf library cell tech (Unflattened error) = FlatRefused library cell tech error
+IsFlatFaultOf library cell tech _ = ⊥
 
 -- of a layout that was checked against the rules of its table
 abbrev pub IsSourceFaultOf : Tech → List Placed → Fault → Type 0

@@ -1,10 +1,9 @@
 -- Thin input: the files that this stage of the program moves.
-use Rattle.std.specs.Prelude.{◌≡◌, ℕ, ◌≤◌, ℤ, pos, negsuc, ◌≤ℤ◌, List, [], length, All}
-use Rattle.std.specs.List.{AllZip}
-use Rattle.rt_cells.specs.Rectangles.{Rectangle}
-use Rattle.gds_stream.specs.declared.library.Element.{Element}
+use Rattle.std.specs.Prelude.{◌≡◌, ℕ, ◌≤◌, ◌≤ℤ◌, List, [], length, All}
+use Rattle.rt_layout.specs.declared.layout.Layout.{Layout as FlatLayout}
 use Rattle.gds_stream.specs.declared.library.Library.{Library}
 use Rattle.gds_stream.specs.Contents.{Stream}
+use Rattle.gds_flat.specs.Refused.{IsFlattened}
 use Rattle.rt_tech.specs.declared.table.Mask.{Mask}
 use Rattle.rt_tech.specs.declared.table.Role.TheVariants.{Metal}
 use Rattle.rt_tech.specs.declared.table.Tech.{Tech}
@@ -17,7 +16,7 @@ use Rattle.rt_sizes.specs.SizesFile.{DescribesSizes}
 use Rattle.rt_template.specs.Strips.{Placed}
 use Rattle.rt_template.specs.Across.{extent_limit}
 use Rattle.rt_template.specs.Separate.{AreSeparateStrips, extent_side_by_side}
-use Rattle.rt_retarget.specs.Layout.{IsSourceItem, IsOneStructure}
+use Rattle.rt_retarget.specs.Layout.{rectangles_in}
 
 -- the two files are rule tables of one form
 pub record AreTables (stable ttable : List ℕ) (source_table target_table : Tech) : Type 0 where
@@ -40,23 +39,6 @@ pub record AreBuilt (source_table : Tech) (asked : Sizes) : Type 0 where
   pub no_aparts : source_table.aparts ≡ []
   pub no_mirror : asked.mirror ≡ mirror.None
 
--- the magnitude is at most 1,000,000,000 database units
-pub record IsPlaced (z : ℤ) : Type 0 where
-  pub low : negsuc 999999999 ≤ℤ z
-  pub high : z ≤ℤ pos 1000000000
-
--- the sides are within these limits
-pub record IsWithinLimits (r : Rectangle) : Type 0 where
-  pub left : IsPlaced r.left
-  pub right : IsPlaced r.right
-  pub bottom : IsPlaced r.bottom
-  pub top : IsPlaced r.top
-
--- the element draws that rectangle on a mask of the table, within the limits
-pub record IsThinItem (tech : Tech) (element : Element) (item : Placed) : Type 0 where
-  pub drawn : IsSourceItem tech element item
-  pub within : IsWithinLimits item.area
-
 -- the most rectangles of a cell
 abbrev pub rectangle_limit : ℕ
 rectangle_limit = 120
@@ -66,13 +48,18 @@ pub record AreThin (target_table : Tech) (layout : List Placed) : Type 0 where
   pub separate : AreSeparateStrips layout
   pub side_by_side : extent_side_by_side target_table layout ≤ℤ extent_limit
 
--- the library is the cell alone, and its elements are few, each a rectangle on a mask of the source's table, and thin
+-- a flat layout is thin: it has no labels, and its rectangles are few and thin
+pub record IsThin (target_table : Tech) (flat : FlatLayout) : Type 0 where
+  pub no_labels : flat.labels ≡ []
+  pub few : length (rectangles_in flat) ≤ rectangle_limit
+  pub thin : AreThin target_table (rectangles_in flat)
+
+-- the cell of the library is flattened by the source's table to a thin layout, and these are its rectangles, mask by mask
 pub record IsThinLayout (library : Library) (cell : List ℕ) (source_table target_table : Tech) (layout : List Placed) : Type 0 where
-  pub elements : List Element
-  pub one_structure : IsOneStructure library cell elements
-  pub few : length elements ≤ rectangle_limit
-  pub items : AllZip (IsThinItem source_table) elements layout
-  pub thin : AreThin target_table layout
+  pub flat : FlatLayout
+  pub flattened : IsFlattened library.structures cell source_table flat
+  pub thin : IsThin target_table flat
+  pub rectangles : layout ≡ rectangles_in flat
 
 -- the four files are thin input
 pub record ThinInput (source stable ttable sizes : List ℕ) : Type 0 where

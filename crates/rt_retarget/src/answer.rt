@@ -1,5 +1,6 @@
 ghost use Rattle.std.specs.Prelude.{◌≡◌};
 
+use gds_flat::FlatError;
 use gds_stream::Cause;
 use rt_base::{Cell, List, OutOfMemory, Text};
 use rt_tech::{RuleName, TableCause, Which};
@@ -20,7 +21,7 @@ pub enum Outcome {
 }
 
 /// Why a retargeting is refused.
-#[derive(Debug, PartialEq, Eq, Drop, Error)]
+#[derive(Debug, Drop, Error)]
 pub enum Fault {
     /// A table isn't a TOML document.
     #[error("a table isn't TOML: {which:?}")]
@@ -68,6 +69,10 @@ pub enum Fault {
         /// Why no stream goes on there.
         cause: Cause,
     },
+    /// The cell of the source isn't flattened: an element, a name, a circle, a depth, a layer, a step, a count or a coordinate
+    /// that isn't taken, or no memory for the flat layout.
+    #[error("the cell isn't flattened: {0}")]
+    Unflattened(FlatError),
     /// The source breaks this rule of its own table, the first one that it breaks.
     #[error("the source breaks a rule")]
     SourceRule {

@@ -1,4 +1,6 @@
-ghost use Rattle.std.specs.Prelude.{◌≡◌, [], All, IfOk, IfErr, OnOk, MatchBool, None};
+ghost use Rattle.std.specs.Prelude.{◌≡◌, ◌≤◌, [], length, All, IfOk, IfErr, OnOk, MatchBool, None};
+ghost use Rattle.gds_flat.specs.Drawn.{AreDrawable};
+ghost use Rattle.gds_flat.specs.Refused.{IsFlattened};
 ghost use Rattle.gds_stream.specs.Contents.{Stream};
 ghost use Rattle.rt_tech.specs.Tech.{IsGrid};
 ghost use Rattle.rt_tables.specs.Tables.{IsTechOf};
@@ -6,11 +8,14 @@ ghost use Rattle.rt_tables.specs.Forms.{HaveSameForm};
 ghost use Rattle.rt_sizes.specs.SizesFile.{DescribesSizes};
 ghost use Rattle.rt_sizes.specs.Wishes.{wishes_fault};
 ghost use Rattle.rt_retarget.specs.Thin.{AreFiles, IsMetal, AreBuilt};
-ghost use Rattle.rt_retarget.specs.Stages.{IsTableRefusal, IsSizesRefusal, IsTableFaultOf, IsFormFaultOf, IsSizesFaultOf, IsStreamFaultOf, IsStrayFaultOf, IsFilesFaultOf};
+ghost use Rattle.rt_retarget.specs.Stages.{IsTableRefusal, IsSizesRefusal, IsTableFaultOf, IsFormFaultOf, IsSizesFaultOf, IsStreamFaultOf, IsFlatFaultOf, IsStrayFaultOf, IsFilesFaultOf};
 
 use crate::answer::Fault;
+use gds_flat::flatten;
 use gds_stream::{Library, StreamError, read_stream};
+use rt_base::Text;
 use rt_keys::TableError;
+use rt_layout::Layout;
 use rt_sizes::{Mirror, Sizes, read_sizes, wishes};
 use rt_tables::{read_tech, same_form};
 use rt_tech::{Mask, Role, Tech, Which};
@@ -137,5 +142,23 @@ pub fn read_library(alloc: Global, source: &[u8]) -> Result<Library, Fault>
         Ok(library) => Ok(library),
         Err(StreamError::At { offset, cause }) => Err(Fault::BadStream { offset, cause }),
         Err(StreamError::OutOfMemory) => Err(Fault::OutOfMemory),
+    }
+}
+
+/// The flat layout of the library's cell by the source's table, or why it isn't flattened.
+pub fn flat_cell(
+    alloc: Global,
+    library: &Library,
+    cell: &Text,
+    table: &Tech,
+) -> Result<Layout, Fault>
+    requires drawable { AreDrawable library.now.structures }
+    requires masks { length table.now.masks ≤ 64 }
+    ensures flat { IfOk result (IsFlattened library.now.structures cell.now table.now) }
+    ensures refused { IfErr result (IsFlatFaultOf library.now.structures cell.now table.now) }
+{
+    match flatten(alloc, library, cell, table) {
+        Ok(flat) => Ok(flat),
+        Err(error) => Err(Fault::Unflattened(error)),
     }
 }

@@ -1,4 +1,4 @@
-ghost use Rattle.rt_retarget.specs.Exclusion.{DoneIsSound, DoneIsThin, StrayIsSound, StrayIsNotDone, NotBuiltIsNotThin, NoStreamIsAlone};
+ghost use Rattle.rt_retarget.specs.Exclusion.{DoneIsSound, DoneIsThin, StrayIsSound, StrayIsNotDone, NotBuiltIsNotThin, NoStreamIsAlone, UnflattenedIsAlone};
 
 /// A law for callers: files whose cell is moved are never refused for a broken rule. With `strays_are_alone`, `SourceRule`
 /// comes exactly where the files are thin input and a rule is broken, want of memory aside.
@@ -31,4 +31,11 @@ pub fn not_built_is_not_thin()
 /// memory aside.
 pub fn no_stream_is_alone()
     ensures { NoStreamIsAlone }
+{}
+
+/// A law for callers: files whose cell isn't flattened are neither thin input nor refused as not built, and their source is a
+/// stream. So `Unflattened` comes exactly where the files before it are valid and ask for what is built, the source is a stream,
+/// and its cell is refused, want of memory aside.
+pub fn unflattened_is_alone()
+    ensures { UnflattenedIsAlone }
 {}

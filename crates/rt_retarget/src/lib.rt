@@ -11,5 +11,6 @@ mod moving;
 pub use answer::{Fault, Outcome};
 pub use laws::{
     done_is_sound, done_is_thin, no_stream_is_alone, not_built_is_not_thin, strays_are_alone,
+    unflattened_is_alone,
 };
 pub use moving::retarget;

@@ -8,7 +8,7 @@ ghost use Rattle.rt_retarget.specs.Answers.{IsOutcomeOf, IsFaultOf, mask_of_rule
 ghost use Rattle.rt_retarget.specs.Stages.{IsSourceFaultOf};
 
 use crate::answer::{Fault, Outcome};
-use crate::files::{Files, are_built, check_strays, read_files, read_library};
+use crate::files::{Files, are_built, check_strays, flat_cell, read_files, read_library};
 use crate::layout::lay_out;
 use crate::making::{job_of, stream_of};
 use gds_stream::Library;
@@ -31,8 +31,8 @@ struct Thin {
 /// The four files are the source stream, its rule table, the target's rule table and the sizes file. They are looked at
 /// in this order, and the first that holds is answered: `TableToml` and `BadTable` of the source's table, then of the
 /// target's; `TablesDiffer`; `SizesToml` and `BadSizes`; `NotBuilt`, where a mask isn't metal, there is a distance between
-/// masks or a mirror is asked for; `BadStream`; `NotBuilt`, where the source isn't thin; `SourceRule`; `BadSizes`, where
-/// there are sizes for a device. `OutOfMemory` comes only for want of memory.
+/// masks or a mirror is asked for; `BadStream`; `Unflattened`; `NotBuilt`, where the flat layout isn't thin; `SourceRule`;
+/// `BadSizes`, where there are sizes for a device. `OutOfMemory`, also of `Unflattened`, comes only for want of memory.
 pub fn retarget(
     alloc: Global,
     source: &[u8],
@@ -75,13 +75,8 @@ fn thin_input(
         return Err(Fault::NotBuilt);
     }
     let library = read_library(alloc, source)?;
-    let found = lay_out(
-        alloc,
-        &library,
-        &files.asked.cell,
-        &files.source,
-        &files.target,
-    )?;
+    let flat = flat_cell(alloc, &library, &files.asked.cell, &files.source)?;
+    let found = lay_out(alloc, &flat, &files.target)?;
     match found {
         Some(rectangles) => Ok(Thin {
             files,

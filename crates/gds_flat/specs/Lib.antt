@@ -1,0 +1,12 @@
+pub mod Reach
+pub mod Elements
+pub mod Placing
+pub mod Items
+pub mod Refused
+pub mod Walking
+pub mod Depths
+pub mod Drawn
+pub mod Drawings
+pub mod Counting
+pub mod Laws
+pub mod Building
