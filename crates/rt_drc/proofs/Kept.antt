@@ -197,6 +197,7 @@ first_breach_breaks_rule tech drawing (Width m) p q found needed (before, same, 
 first_breach_breaks_rule tech drawing (Space m) p q found needed (before, width, same, breach) kept =
     space_breach_breaks (space_of tech m) (covered_by m drawing) p.x p.y q.x q.y found
     (subst (λ z. SpaceBreach z (covered_by m drawing) p.x p.y q.x q.y found) same breach) (kept.masks m before.there).keeps_space
+first_breach_breaks_rule tech drawing _ p q found needed breach kept = breach
 
 read_mask : (tech : Tech) (m : ℕ) (masks : List Mask) (mask : Mask) → masks ≡ tech.masks → m < length masks → mask ≡ get_or masks m mask → mask_at tech m ≡ Some mask
 read_mask tech m masks mask e h is =

@@ -28,6 +28,7 @@ IsMaskBreach w s drawing m (Width k) p q found needed =
     (k ≡ m) × (needed ≡ w) × WidthBreach w (covered_by m drawing) p.x p.y q.x q.y found
 IsMaskBreach w s drawing m (Space k) p q found needed =
     (k ≡ m) × KeepsWidth w (covered_by m drawing) × (needed ≡ s) × SpaceBreach s (covered_by m drawing) p.x p.y q.x q.y found
+IsMaskBreach w s drawing m _ p q found needed = ⊥
 
 -- the error names the first rule of mask m that the drawing breaks, with what shows it
 abbrev pub IsMaskBreachOf : ℤ → ℤ → List Placed → ℕ → RuleError → Type 0

@@ -3,6 +3,7 @@ use Rattle.std.specs.Prelude.{ℕ, ℤ, pos, Bool, true, ◌&&◌, ◌==◌, nat
 use Rattle.std.specs.Option.{option_map_or}
 use Rattle.std.specs.Fmt.{decimal}
 use Rattle.toml.specs.Data.{Data, Members, Items, as_integer, get_item}
+use Rattle.rt_tech.specs.declared.limits.TheConstants.{LAYER_LIMIT, LENGTH_LIMIT}
 use Rattle.rt_tech.specs.declared.table.TableCause.TheVariants.{Form, Range}
 use Rattle.rt_tech.specs.declared.table.Which.TheVariants.{Source, Target}
 use Rattle.rt_tech.specs.declared.table.Which.{Which}
@@ -32,9 +33,9 @@ abbrev pub is_on_grid : Which → ℤ → ℤ → Bool
 is_on_grid Source grid number = true
 is_on_grid Target grid number = nat_abs (int_rem number grid) == 0
 
--- the table may write this length: from the least one to a million, and on the grid
+-- the table may write this length: from the least one to the largest that a table can ask for, and on the grid
 abbrev pub may_be : Measure → ℤ → ℤ → Bool
-may_be measure low number = is_within low (pos 1000000) number && is_on_grid measure.which measure.grid number
+may_be measure low number = is_within low LENGTH_LIMIT number && is_on_grid measure.which measure.grid number
 
 -- a length as it is kept: a source table's as it is, a target table's in steps
 abbrev pub kept_in : Which → ℤ → ℤ → ℤ
@@ -49,9 +50,9 @@ length_fault measure low key members = wanted as_integer key members or_else tes
 abbrev pub length_of : Measure → List ℕ → Members → ℤ
 length_of measure key members = kept_in measure.which measure.grid (number key members)
 
--- a number of a pair has to be whole, from the least one to 32767
+-- a number of a pair has to be whole, from the least one to the largest layer
 abbrev pub number_here_fault : ℤ → Data → Option Fault
-number_here_fault low value = test_here Form (is_some (as_integer value)) or_else test_here Range (is_within low (pos 32767) (as_number value))
+number_here_fault low value = test_here Form (is_some (as_integer value)) or_else test_here Range (is_within low LAYER_LIMIT (as_number value))
 
 -- number n of a pair, where it is there
 abbrev pub place_here : ℤ → ℕ → Option Data → Option Fault

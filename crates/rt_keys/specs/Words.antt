@@ -1,8 +1,8 @@
--- Tests on roles and on layer pairs.
+-- The words of roles.
 use Rattle.std.specs.Prelude.{ℕ, if◌then◌else◌, List, Option, Some, None, codes, bytes_eq}
 use Rattle.rt_tech.specs.declared.table.Role.{Role}
 use Rattle.rt_tech.specs.declared.table.Role.TheVariants.{Metal, Gate, Active, Cut, Background}
-pub use Rattle.rt_tech.specs.Words.{same_role, same_number, same_pair, stands_for, is_ignored}
+pub use Rattle.rt_tech.specs.Words.{same_role}
 
 -- the role that a word names
 abbrev pub role_named : List ℕ → Option Role

@@ -8,6 +8,7 @@ ghost use Rattle.rt_keys.specs.Faults.{Reads};
 use crate::keys::{entry_number, number};
 use crate::scale::Scale;
 use crate::stop::{Stop, at_entry, tested, tested_here};
+use rt_tech::limits::{LAYER_LIMIT, LENGTH_LIMIT};
 use rt_tech::{TableCause, Which};
 use std::alloc::Global;
 use toml::{Table, Value};
@@ -39,7 +40,7 @@ pub fn number_within(
 fn may_be(scale: &Scale, low: i64, number: i64) -> bool
     ensures { result ≡ may_be_of (measure_of scale.now) low number }
 {
-    is_within(low, 1_000_000, number)
+    is_within(low, LENGTH_LIMIT, number)
         && match scale.which {
             Which::Source => true,
             Which::Target => number % scale.grid == 0,
@@ -67,7 +68,7 @@ pub fn length(alloc: Global, table: &Table, key: &str, scale: &Scale, low: i64) 
     Ok(kept(scale, number))
 }
 
-// A number of a pair, from the least one to 32767.
+// A number of a pair, from the least one to the largest layer.
 fn number_here(alloc: Global, value: &Value, low: &i16) -> Result<i16, Stop>
     ensures { Reads result (number_here_fault low.now (view value.now)) (λ n. n ≡ as_number (view value.now)) }
 {
@@ -75,7 +76,7 @@ fn number_here(alloc: Global, value: &Value, low: &i16) -> Result<i16, Stop>
     tested_here(
         alloc,
         TableCause::Range,
-        is_within(*low as i64, 32767, number),
+        is_within(*low as i64, LAYER_LIMIT, number),
     )?;
     Ok(number as i16)
 }

@@ -10,7 +10,7 @@ use Rattle.rt_tech.specs.declared.table.TableCause.TheVariants.{Missing as Missi
 use Rattle.rt_tech.specs.declared.table.Which.{Which}
 use Rattle.rt_tech.specs.declared.table.Which.TheVariants.{Source, Target}
 use Rattle.rt_tech.specs.declared.rules.RuleName.{RuleName}
-use Rattle.rt_tech.specs.declared.rules.RuleName.TheVariants.{Width, Space}
+use Rattle.rt_tech.specs.declared.rules.RuleName.TheVariants.{Width, Space, Size, Enclose, Cap, Ext, Cross, Apart}
 use Rattle.rt_desk.specs.declared.outside.DeskError.{DeskError}
 use Rattle.rt_desk.specs.declared.outside.DeskError.TheVariants.{Failed, Missing, TooLong, OutOfMemory}
 
@@ -47,10 +47,16 @@ abbrev pub table_word : Which → List ℕ
 table_word Source = codes "source table: "
 table_word Target = codes "target table: "
 
--- the kind of a rule, before the name of its mask
+-- the kind of a rule, before the name of its mask. A rule that no table has yet is never answered, and never said
 abbrev pub rule_word : RuleName → List ℕ
 rule_word (Width mask) = codes "width "
 rule_word (Space mask) = codes "space "
+rule_word (Size mask) = codes "size "
+rule_word (Enclose place) = codes "enclose "
+rule_word Cap = codes "cap "
+rule_word Ext = codes "ext "
+rule_word Cross = codes "cross "
+rule_word (Apart place) = codes "apart "
 
 -- the words are of none of the forms
 abbrev pub usage_line : List ℕ

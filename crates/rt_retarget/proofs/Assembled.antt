@@ -12,7 +12,7 @@ use Rattle.rt_rows.specs.declared.name.Name.TheVariants.{Wide, Tall}
 use Rattle.rt_tech.specs.declared.table.Tech.{Tech}
 use Rattle.rt_tech.specs.declared.table.Which.TheVariants.{Source, Target}
 use Rattle.rt_tech.specs.Tech.{mask_count, IsMeasured}
-use Rattle.rt_sizes.specs.declared.given.Sizes.{Sizes}
+use Rattle.rt_tech.specs.declared.sizes.Sizes.{Sizes}
 use Rattle.rt_sizes.specs.Wishes.{wishes_fault}
 use Rattle.rt_tech.proofs.Measured.{measured}
 use Rattle.rt_tables.proofs.Valid.{valid_table}

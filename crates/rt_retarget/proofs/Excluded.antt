@@ -13,7 +13,7 @@ use Rattle.rt_tech.specs.declared.table.TableCause.{TableCause}
 use Rattle.rt_tech.specs.declared.table.Tech.{Tech}
 use Rattle.rt_tech.specs.declared.table.Which.TheVariants.{Source}
 use Rattle.rt_keys.specs.declared.error.TableError.TheVariants.{BadSizes}
-use Rattle.rt_sizes.specs.declared.given.Sizes.{Sizes}
+use Rattle.rt_tech.specs.declared.sizes.Sizes.{Sizes}
 use Rattle.rt_sizes.specs.Refusals.{RefusesSizes}
 use Rattle.rt_sizes.specs.Wishes.{wishes_fault}
 use Rattle.rt_tech.proofs.Measured.{measured}

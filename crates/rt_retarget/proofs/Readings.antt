@@ -3,7 +3,7 @@ use Rattle.std.proofs.Common.{◌≡◌, ℕ, List, subst, sym, ap, ◌∙◌}
 use Rattle.rt_tech.specs.declared.table.Tech.{Tech}
 use Rattle.rt_tech.specs.declared.table.Which.TheVariants.{Source, Target}
 use Rattle.toml.specs.Data.{Members}
-use Rattle.rt_sizes.specs.declared.given.Sizes.{Sizes}
+use Rattle.rt_tech.specs.declared.sizes.Sizes.{Sizes}
 use Rattle.rt_keys.specs.Document.{IsDocument}
 use Rattle.rt_sizes.specs.SizesFile.{DescribesSizes, sizes_of}
 use Rattle.rt_tables.proofs.Valid.{same_table}

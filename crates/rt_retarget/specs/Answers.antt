@@ -10,14 +10,14 @@ use Rattle.gds_flat.specs.Refused.{IsFlattened, FlatRefused}
 use Rattle.rt_layout.specs.declared.layout.Layout.{Layout as FlatLayout}
 use Rattle.toml.specs.Data.{Members}
 use Rattle.rt_tech.specs.declared.rules.RuleName.{RuleName}
-use Rattle.rt_tech.specs.declared.rules.RuleName.TheVariants.{Width, Space}
+use Rattle.rt_tech.specs.declared.rules.RuleName.TheVariants.{Width, Space, Size, Enclose, Cap, Ext, Cross, Apart}
 use Rattle.rt_tech.specs.declared.table.Mask.{Mask}
 use Rattle.rt_tech.specs.declared.table.TableCause.{TableCause}
 use Rattle.rt_tech.specs.declared.table.Tech.{Tech}
 use Rattle.rt_tech.specs.declared.table.Which.{Which}
 use Rattle.rt_tech.specs.declared.table.Which.TheVariants.{Source, Target}
 use Rattle.rt_keys.specs.declared.error.TableError.TheVariants as table
-use Rattle.rt_sizes.specs.declared.given.Sizes.{Sizes}
+use Rattle.rt_tech.specs.declared.sizes.Sizes.{Sizes}
 use Rattle.rt_keys.specs.Document.{IsDocument}
 use Rattle.rt_tables.specs.Tables.{IsTechOf, HasTableFault}
 use Rattle.rt_tables.specs.Forms.{AreParted}
@@ -118,10 +118,16 @@ pub record HasNoThinLayout (source stable ttable sizes : List ℕ) : Type 0 wher
 abbrev pub IsNotBuilt : List ℕ → List ℕ → List ℕ → List ℕ → Type 0
 IsNotBuilt source stable ttable sizes = AskForMore stable ttable sizes ⊎ HasNoThinLayout source stable ttable sizes
 
--- the mask that a rule is of
+-- the mask that a rule is of, and 0 for a rule that isn't of one mask: no table has such a rule yet, so it is never answered
 abbrev pub mask_of_rule : RuleName → ℕ
 mask_of_rule (Width mask) = mask
 mask_of_rule (Space mask) = mask
+mask_of_rule (Size mask) = mask
+mask_of_rule (Enclose place) = 0
+mask_of_rule Cap = 0
+mask_of_rule Ext = 0
+mask_of_rule Cross = 0
+mask_of_rule (Apart place) = 0
 
 -- a mask of the table has the name
 pub record IsMaskNamed (tech : Tech) (number : ℕ) (name : List ℕ) : Type 0 where

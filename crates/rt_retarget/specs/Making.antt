@@ -5,7 +5,7 @@ use Rattle.gds_stream.specs.declared.library.Library.{Library}
 use Rattle.gds_stream.specs.Contents.{Stream}
 use Rattle.gds_stream.specs.Written.{OneCell}
 use Rattle.rt_rows.specs.declared.row.Var.{Var}
-use Rattle.rt_sizes.specs.declared.given.Sizes.{Sizes}
+use Rattle.rt_tech.specs.declared.sizes.Sizes.{Sizes}
 use Rattle.rt_tech.specs.declared.table.Tech.{Tech}
 use Rattle.rt_tech.specs.Tech.{IsMeasured}
 use Rattle.rt_template.specs.declared.job.Job.{Job}

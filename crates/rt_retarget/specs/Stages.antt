@@ -8,7 +8,7 @@ use Rattle.rt_tech.specs.declared.table.Which.{Which}
 use Rattle.rt_tech.specs.declared.table.Which.TheVariants.{Target}
 use Rattle.rt_keys.specs.declared.error.TableError.{TableError}
 use Rattle.rt_keys.specs.declared.error.TableError.TheVariants as table
-use Rattle.rt_sizes.specs.declared.given.Sizes.{Sizes}
+use Rattle.rt_tech.specs.declared.sizes.Sizes.{Sizes}
 use Rattle.rt_tables.specs.Tables.{HasTableFault}
 use Rattle.rt_tables.specs.Forms.{AreParted}
 use Rattle.rt_sizes.specs.Refusals.{RefusesSizes}

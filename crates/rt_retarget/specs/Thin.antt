@@ -8,8 +8,8 @@ use Rattle.rt_tech.specs.declared.table.Mask.{Mask}
 use Rattle.rt_tech.specs.declared.table.Role.TheVariants.{Metal}
 use Rattle.rt_tech.specs.declared.table.Tech.{Tech}
 use Rattle.rt_tech.specs.declared.table.Which.TheVariants.{Source, Target}
-use Rattle.rt_sizes.specs.declared.given.Mirror.TheVariants as mirror
-use Rattle.rt_sizes.specs.declared.given.Sizes.{Sizes}
+use Rattle.rt_tech.specs.declared.sizes.Mirror.TheVariants as mirror
+use Rattle.rt_tech.specs.declared.sizes.Sizes.{Sizes}
 use Rattle.rt_tables.specs.Tables.{IsTechOf}
 use Rattle.rt_tables.specs.Forms.{HaveSameForm}
 use Rattle.rt_sizes.specs.SizesFile.{DescribesSizes}

@@ -16,9 +16,9 @@ use gds_stream::{Library, StreamError, read_stream};
 use rt_base::Text;
 use rt_keys::TableError;
 use rt_layout::Layout;
-use rt_sizes::{Mirror, Sizes, read_sizes, wishes};
+use rt_sizes::{read_sizes, wishes};
 use rt_tables::{read_tech, same_form};
-use rt_tech::{Mask, Role, Tech, Which};
+use rt_tech::{Mask, Mirror, Role, Sizes, Tech, Which};
 use std::alloc::Global;
 
 /// What the tables and the sizes file hold.

@@ -128,6 +128,12 @@ fn name_of_rule(alloc: Global, table: &Tech, rule: &RuleName) -> Result<Text, Ou
     let number = match rule {
         RuleName::Width(mask) => *mask,
         RuleName::Space(mask) => *mask,
+        RuleName::Size(mask) => *mask,
+        RuleName::Enclose(_)
+        | RuleName::Cap
+        | RuleName::Ext
+        | RuleName::Cross
+        | RuleName::Apart(_) => 0,
     };
     let masks = table.masks.as_slice();
     copy_of(alloc, &masks[number as usize].name)

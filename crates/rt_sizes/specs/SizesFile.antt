@@ -9,11 +9,11 @@ use Rattle.rt_tech.specs.declared.table.TableCause.TheVariants.{Form, Range, Dup
 use Rattle.rt_tech.specs.declared.table.Which.TheVariants.{Target}
 use Rattle.rt_keys.specs.declared.error.TableError.{TableError}
 use Rattle.rt_keys.specs.declared.error.TableError.TheVariants.{BadToml, BadTable, TablesDiffer, BadSizes, OutOfMemory}
-use Rattle.rt_sizes.specs.declared.given.Mirror.{Mirror}
-use Rattle.rt_sizes.specs.declared.given.Mirror.TheVariants.{Find, At}
-use Rattle.rt_sizes.specs.declared.given.Mirror.TheVariants as mirror
-use Rattle.rt_sizes.specs.declared.given.Sizes.{Sizes}
-use Rattle.rt_sizes.specs.declared.given.Wish.{Wish}
+use Rattle.rt_tech.specs.declared.sizes.Mirror.{Mirror}
+use Rattle.rt_tech.specs.declared.sizes.Mirror.TheVariants.{Find, At}
+use Rattle.rt_tech.specs.declared.sizes.Mirror.TheVariants as mirror
+use Rattle.rt_tech.specs.declared.sizes.Sizes.{Sizes}
+use Rattle.rt_tech.specs.declared.sizes.Wish.{Wish}
 use Rattle.rt_keys.specs.declared.stop.Fault.{Fault}
 use Rattle.rt_keys.specs.Document.{IsDocument, has, word, number, list, as_members, entries_of}
 use Rattle.rt_keys.specs.Faults.{◌or_else◌, test, test_here, within, wanted, unwanted, others, each}

@@ -3,8 +3,8 @@ use Rattle.std.specs.Prelude.{◌≡◌, ℕ, ◌+◌, nat_eq, nat_lt, List, [],
 use Rattle.std.specs.Map.{lookup}
 use Rattle.std.specs.Fmt.{decimal}
 use Rattle.rt_tech.specs.declared.table.TableCause.TheVariants.{Missing, Range}
-use Rattle.rt_sizes.specs.declared.given.Sizes.{Sizes}
-use Rattle.rt_sizes.specs.declared.given.Wish.{Wish}
+use Rattle.rt_tech.specs.declared.sizes.Sizes.{Sizes}
+use Rattle.rt_tech.specs.declared.sizes.Wish.{Wish}
 use Rattle.rt_keys.specs.declared.stop.Fault.{Fault}
 use Rattle.rt_keys.specs.Faults.{◌or_else◌, test, within}
 

@@ -2,9 +2,9 @@ ghost use Rattle.std.specs.Prelude.{◌≡◌, ℕ, nat_eq, IfOk, Some};
 ghost use Rattle.indexmap.specs.IndexMap.{get};
 ghost use Rattle.rt_sizes.specs.Wishes.{given, wish_of as wish_in};
 
-use crate::given::{Sizes, Wish};
 use indexmap::IndexMap;
 use rt_base::OutOfMemory;
+use rt_tech::{Sizes, Wish};
 use std::alloc::Global;
 
 // The entries of a sizes file by their numbers.

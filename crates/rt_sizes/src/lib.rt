@@ -2,13 +2,11 @@
 #![tactic(auto)]
 
 mod book;
-mod given;
 mod sizes_entries;
 mod sizes_file;
 #[cfg(test)]
 mod tests;
 mod wishing;
 
-pub use given::{Mirror, Sizes, Wish};
 pub use sizes_file::read_sizes;
 pub use wishing::wishes;

@@ -6,7 +6,6 @@ ghost use Rattle.rt_keys.specs.Document.{number as number_at, word as word_at, l
 ghost use Rattle.rt_keys.specs.Faults.{Reads};
 ghost use Rattle.rt_sizes.specs.SizesFile.{in_target, kind_from, kind_told, kind_name_fault, kind_number as kind_number_of, kind_table_fault, kind_fault, kind_sizes, kinds_fault, kinds_of, index_fault, device_table_fault, device_fault, device_sizes, devices_fault, devices_of, wish_fault, wish_at};
 
-use crate::given::Wish;
 use rt_base::List;
 use rt_keys::entries::{Entry, entries};
 use rt_keys::finding::{find, is_first, names};
@@ -16,7 +15,7 @@ use rt_keys::names::Names;
 use rt_keys::numbers::{length, number_within};
 use rt_keys::scale::Scale;
 use rt_keys::stop::{Stop, at, refused, tested};
-use rt_tech::{Kind, TableCause, Tech, Which};
+use rt_tech::{Kind, TableCause, Tech, Which, Wish};
 use std::alloc::Global;
 use toml::{Table, Value};
 

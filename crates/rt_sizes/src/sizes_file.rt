@@ -6,14 +6,13 @@ ghost use Rattle.rt_keys.specs.Document.{number as number_at, word as word_at, l
 ghost use Rattle.rt_keys.specs.Faults.{Reads, others as others_of};
 ghost use Rattle.rt_sizes.specs.SizesFile.{is_printable as is_printable_of, is_cell as is_cell_of, is_mirror as is_mirror_of, cell_fault, mirror_fault, mirror_of, pivots_fault, pivots_of, later_fault, sizes_fault, sizes_of, DescribesSizes, RefusesFile};
 
-use crate::given::{Mirror, Sizes};
 use crate::sizes_entries::{devices, kinds};
 use rt_base::{List, Text};
 use rt_keys::TableError;
 use rt_keys::keys::{document, has, others, unwanted, word};
 use rt_keys::numbers::number_within;
 use rt_keys::stop::{Stop, bad_sizes, printable, tested};
-use rt_tech::{TableCause, Tech};
+use rt_tech::{Mirror, Sizes, TableCause, Tech};
 use std::alloc::Global;
 use toml::Table;
 

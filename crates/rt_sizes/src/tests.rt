@@ -1,7 +1,7 @@
-use crate::{Mirror, Sizes, Wish, read_sizes, wishes};
+use crate::{read_sizes, wishes};
 use rt_base::{List, Text};
 use rt_keys::TableError;
-use rt_tech::{Kind, TableCause, Tech};
+use rt_tech::{Kind, Mirror, Sizes, TableCause, Tech, Wish};
 use std::alloc::{AllocError, Global};
 use std::test::Fail;
 

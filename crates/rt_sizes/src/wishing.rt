@@ -5,12 +5,11 @@ ghost use Rattle.rt_keys.specs.Faults.{Reads, Stops, test};
 ghost use Rattle.rt_sizes.specs.Wishes.{wish_of as wish_in, stray_fault, lacking_fault, wishes_fault, AreWishes, wished_from};
 
 use crate::book::{Book, opened, wish_of};
-use crate::given::{Sizes, Wish};
 use itoa::Buffer;
 use rt_base::List;
 use rt_keys::TableError;
 use rt_keys::stop::{Stop, at, at_entry, bad_sizes, refused, tested};
-use rt_tech::TableCause;
+use rt_tech::{Sizes, TableCause, Wish};
 use std::alloc::Global;
 
 // Refuses an entry for a device that isn't there.

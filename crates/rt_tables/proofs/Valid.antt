@@ -2,6 +2,7 @@
 use Rattle.std.proofs.Common.{◌≡◌, ℕ, ℤ, pos, negsuc, List, [], All, None, is_some, codes, sym, subst, arith}
 use Rattle.std.proofs.lemmas.Int.{ints}
 use Rattle.toml.specs.Data.{Data, Members, as_array}
+use Rattle.rt_tech.specs.declared.limits.TheConstants.{GRID_LIMIT}
 use Rattle.rt_tech.specs.declared.table.Tech.{Tech}
 use Rattle.rt_tech.specs.declared.table.Which.{Which}
 use Rattle.rt_tech.specs.Tech.{IsGrid, IsIgnorable, IsValidTech}
@@ -44,7 +45,7 @@ valid_tech which doc h =
     let values = list (codes "mask") doc in
     let masks = masks_in which doc in
     let (version, a) = or_parts (number_fault (pos 1) (pos 1) (codes "version") doc) _ h in
-    let (grid, b) = or_parts (number_fault (pos 1) (pos 100) (codes "grid") doc) _ a in
+    let (grid, b) = or_parts (number_fault (pos 1) GRID_LIMIT (codes "grid") doc) _ a in
     let (units, c) = or_parts (units_fault doc) _ b in
     let (unlisted, d) = or_parts (unlisted_fault doc) _ c in
     let (ignore, e) = or_parts (ignore_fault doc) _ d in
@@ -54,7 +55,7 @@ valid_tech which doc h =
     let (channel, i) = or_parts (channel_fault measure masks doc) _ g in
     let (aparts, j) = or_parts (aparts_fault measure values masks doc) _ i in
     let (kinds, foreign) = or_parts (kinds_fault measure values masks doc) _ j in
-    let limits = number_limits (pos 1) (pos 100) (codes "grid") doc grid in
+    let limits = number_limits (pos 1) GRID_LIMIT (codes "grid") doc grid in
     let some : IsGrid (number (codes "grid") doc) = record { low = limits.0; high = limits.1 } in
     let facts = masks_facts measure (ignored_in doc) values some listed in
     record {

@@ -5,6 +5,7 @@ use Rattle.std.specs.List.{list_all}
 use Rattle.std.proofs.lemmas.Bool.{and_parts}
 use Rattle.std.proofs.lemmas.Bool.Decides.{nat_tests}
 use Rattle.toml.specs.Data.{Data, Members, Items, as_str, as_bool, as_array, as_table}
+use Rattle.rt_tech.specs.declared.limits.TheConstants.{KIND_LIMIT}
 use Rattle.rt_tech.specs.declared.table.Kind.{Kind}
 use Rattle.rt_tech.specs.declared.table.Mask.{Mask}
 use Rattle.rt_tech.specs.declared.table.Near.{Near}
@@ -106,13 +107,13 @@ kinds_facts measure names masks doc some h =
     let kinds = kinds_at measure names doc in
     let (there, a) = or_parts (wanted as_array (codes "kind") doc) _ h in
     let (each_one, b) = or_parts (within (codes "kind") (each (kind_fault measure values names masks) (kind_of measure names) [] values)) _ a in
-    let (range, parted) = or_parts (test (codes "kind") Range (nat_le 1 (count values) && nat_le (count values) 64)) _ b in
+    let (range, parted) = or_parts (test (codes "kind") Range (nat_le 1 (count values) && nat_le (count values) KIND_LIMIT)) _ b in
     let P = IsReadKind values masks in
     let follow : Follows P [] kinds = each_follows (kind_fault measure values names masks) (kind_of measure names) P (read_kind measure values names masks some) [] values (within_clear (codes "kind") _ each_one) in
     let Q = λ (done : List Kind) (kind : Kind). All (λ other. are_parted kind other ≡ true) done in
     let apart : Follows Q [] kinds = parted_follow [] kinds (within_clear (codes "kind") _ parted) in
     let counted : length kinds ≡ count values = count_of_entries (kind_of measure names) values in
-    let (one, few) = and_parts (nat_le 1 (count values)) (nat_le (count values) 64) (test_holds (codes "kind") Range _ range) in
+    let (one, few) = and_parts (nat_le 1 (count values)) (nat_le (count values) KIND_LIMIT) (test_holds (codes "kind") Range _ range) in
     record {
       some_kinds = rw counted (grind (arith, nat_tests));
       few_kinds = rw counted (grind (arith, nat_tests));

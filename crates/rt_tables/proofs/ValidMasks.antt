@@ -7,12 +7,13 @@ use Rattle.std.proofs.lemmas.Bool.Decides.{nat_tests}
 use Rattle.std.proofs.lemmas.Int.{ints}
 use Rattle.std.proofs.lemmas.Slice.Eq.{bytes_eq-Decides}
 use Rattle.toml.specs.Data.{Data, Members, Items, no_items, item, get_item}
+use Rattle.rt_tech.specs.declared.limits.TheConstants.{MASK_LIMIT, LAYER_LIMIT}
 use Rattle.rt_tech.specs.declared.table.Mask.{Mask}
 use Rattle.rt_tech.specs.declared.table.Role.{Role as MaskRole}
 use Rattle.rt_tech.specs.declared.table.Role.TheVariants.{Metal, Gate, Active, Cut, Background}
 use Rattle.rt_tech.specs.declared.table.TableCause.TheVariants.{Missing, Range, Duplicate, Role, Clash}
 use Rattle.rt_tech.specs.Rules.{is_role_at}
-use Rattle.rt_tech.specs.Tech.{pair_of as pair_of_mask, IsGrid, IsLayer, IsLength, IsNote, IsValidMask, AreApart, may_be_lower_at, HasSidesOf, IsKept, AreValidMasks}
+use Rattle.rt_tech.specs.Tech.{pair_of as pair_of_mask, IsGrid, IsLayer, IsLength, IsNote, IsValidMask, DoNotClash, may_be_lower_at, HasSidesOf, IsKept, AreValidMasks}
 use Rattle.rt_tech.specs.Words.{same_role, same_number, same_pair, has_role, is_single, may_have_text, may_be_lower, are_different, is_ignored}
 use Rattle.rt_keys.specs.Document.{has, word, number, list, as_members, as_number, count, entries_of}
 use Rattle.rt_keys.specs.Faults.{◌or_else◌, unwanted, each}
@@ -104,11 +105,11 @@ pub record NoteFacts (ignored : List (ℤ × ℤ)) (before : List Mask) (role : 
   pub fresh : All (λ other. IfSome note (λ n. other.note ≢ Some n)) before
   pub kept : IfSome note (λ n. IsFalse (is_ignored ignored n))
 
-pub place_limits : (low : ℤ) (n : ℕ) (values : Items) → low ≤ℤ pos 0 → place_fault low n values ≡ None → (low ≤ℤ place n values) × (place n values ≤ℤ pos 32767)
+pub place_limits : (low : ℤ) (n : ℕ) (values : Items) → low ≤ℤ pos 0 → place_fault low n values ≡ None → (low ≤ℤ place n values) × (place n values ≤ℤ LAYER_LIMIT)
 unfolding place_fault
 place_limits low n values under h = limits_here (get_item n values) h
   where
-    limits_here : (found : Option Data) → place_here low n found ≡ None → (low ≤ℤ option_map_or as_number found (pos 0)) × (option_map_or as_number found (pos 0) ≤ℤ pos 32767)
+    limits_here : (found : Option Data) → place_here low n found ≡ None → (low ≤ℤ option_map_or as_number found (pos 0)) × (option_map_or as_number found (pos 0) ≤ℤ LAYER_LIMIT)
     limits_here None h = (under, omega (arith, ints))
     limits_here (Some value) h =
         let (form, range) = or_parts _ _ (within_clear _ _ h) in
@@ -280,7 +281,7 @@ pub record MasksFacts (ignored : List (ℤ × ℤ)) (masks : List Mask) : Type 0
   pub some_masks : 1 ≤ length masks
   pub few_masks : length masks ≤ 64
   pub valid : All IsValidMask masks
-  pub apart : AllPairs AreApart masks
+  pub apart : AllPairs DoNotClash masks
   pub together : AreValidMasks ignored masks
 
 to_sides : (measure : Measure) (values : Items) (mask : Mask) (role : MaskRole) → SidesOf measure values role mask.upper mask.lowers → HasSidesOf (masks_of measure values) mask role
@@ -300,7 +301,7 @@ masks_facts measure ignored values some h =
     let P = IsReadMask measure values ignored in
     let follow : Follows P [] masks = each_follows (mask_fault measure values ignored) (mask_of measure values) P (read_mask measure values ignored some) [] values (within_clear (codes "mask") _ each_one) in
     let counted : length masks ≡ count values = count_of_entries (mask_of measure values) values in
-    let (one, few) = and_parts (nat_le 1 (count values)) (nat_le (count values) 64) (test_holds (codes "mask") Range _ range) in
+    let (one, few) = and_parts (nat_le 1 (count values)) (nat_le (count values) MASK_LIMIT) (test_holds (codes "mask") Range _ range) in
     let names = called_apart P (λ mask. mask.name) (λ name. named name values) masks follow (λ before mask facts. facts.first) in
     let pairs = pairs_follow P (λ other mask. pair_of_mask other ≢ pair_of_mask mask) masks follow (λ before mask facts. facts.pairs) in
     let notes = pairs_follow P (λ other mask. IfSome mask.note (λ note. other.note ≢ Some note)) masks follow (λ before mask facts. facts.notes) in

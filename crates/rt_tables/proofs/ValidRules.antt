@@ -1,5 +1,5 @@
 -- The rules between the masks of a table without a fault are in order.
-use Rattle.std.proofs.Common.{◌≡◌, ℕ, pos, Bool, true, false, not, ◌&&◌, ◌==◌, List, [], All, length, get_or, is_some, Option, Some, None, codes, refl, arith}
+use Rattle.std.proofs.Common.{◌≡◌, ℕ, pos, Bool, true, false, not, ◌&&◌, ◌==◌, List, [], All, length, get_or, is_some, cond, Option, Some, None, codes, refl, arith}
 use Rattle.std.proofs.lemmas.Bool.Decides.{nat_tests}
 use Rattle.toml.specs.Data.{Data, Members, Items, as_str, as_table}
 use Rattle.rt_tech.specs.declared.table.Apart.{Apart}
@@ -12,7 +12,7 @@ use Rattle.rt_keys.specs.Document.{list, inner, as_members, count}
 use Rattle.rt_keys.specs.Faults.{test_here, wanted, others}
 use Rattle.rt_tables.specs.Masks.{named_fault, numbered}
 use Rattle.rt_keys.specs.Numbers.{Measure, length_fault}
-use Rattle.rt_tables.specs.Rules.{cut_fault, enclose_table_fault, enclose_fault, enclose_of, encloses_of, encloses_fault, channel_table_fault, channel_there, gates_at, on_at, on_fault, apart_keys, apart_table_fault, apart_fault, apart_of, aparts_of, aparts_fault}
+use Rattle.rt_tables.specs.Rules.{cut_fault, enclose_table_fault, enclose_fault, enclose_of, encloses_of, encloses_fault, channel_table_fault, channel_there, gates_at, has_on, on_at, on_fault, apart_keys, apart_table_fault, apart_fault, apart_of, aparts_of, aparts_fault}
 use Rattle.rt_tables.proofs.Clear.{test_holds, here_holds, or_parts, within_clear, Follows, each_follows, all_follow, pairs_follow, none_pass, not_so}
 use Rattle.rt_keys.proofs.Naming.{found_below}
 use Rattle.rt_tables.proofs.Limits.{length_limits, reach_limits}
@@ -91,6 +91,11 @@ one_apart other a b on x y z =
     let here : same_on other.on on ≡ true = rw y (self_on on) in
     rw here (grind (arith, nat_tests))
 
+-- 'on' is there exactly where it is asked for
+on_there : (asked : Bool) (n : ℕ) → is_some (cond asked (Some n) None) ≡ asked
+on_there true n = refl
+on_there false n = refl
+
 read_apart : (measure : Measure) (names : Items) (masks : List Mask) → length masks ≡ count names → IsGrid measure.grid → (before : List Apart) (value : Data)
     → apart_fault measure names masks before value ≡ None → IsReadApart masks before (apart_of measure names masks value)
 unfolding apart_fault apart_table_fault apart_of
@@ -110,7 +115,7 @@ read_apart measure names masks whole some before value h =
     let (second_there, second_named) = or_parts (wanted as_str (codes "b") entry) _ second in
     let none = none_pass (λ (x : Apart). (x.a == a_number) && same_on x.on on_number && (x.b == b_number)) before (not_so _ (here_holds Duplicate _ once)) in
     record {
-      valid = record { first = rw whole (found_below _ names (test_holds (codes "a") Name _ first_named)); second = rw whole (found_below _ names (test_holds (codes "b") Name _ second_named)); stands = here_holds Clash _ clash; number = length_limits measure (codes "number") entry some number };
+      valid = record { first = rw whole (found_below _ names (test_holds (codes "a") Name _ first_named)); second = rw whole (found_below _ names (test_holds (codes "b") Name _ second_named)); on = on_there (has_on names masks entry) (numbered (codes "on") names entry); stands = here_holds Clash _ clash; number = length_limits measure (codes "number") entry some number };
       fresh = λ k d below same. absurd (differs _ (one_apart (get_or before k d) a_number b_number on_number same.firsts same.lowers same.seconds) (none k d below));
     }
   where

@@ -3,6 +3,7 @@ use Rattle.std.specs.Prelude.{ℕ, ℤ, pos, not, ◌&&◌, nat_le, if◌then◌
 use Rattle.std.specs.List.{list_all}
 use Rattle.std.specs.Fmt.{decimal}
 use Rattle.toml.specs.Data.{Data, Members, Items, as_str, as_bool, as_array, as_table}
+use Rattle.rt_tech.specs.declared.limits.TheConstants.{KIND_LIMIT}
 use Rattle.rt_tech.specs.declared.table.Mask.{Mask}
 use Rattle.rt_tech.specs.declared.table.Near.{Near}
 use Rattle.rt_tech.specs.declared.table.Kind.{Kind}
@@ -102,7 +103,7 @@ unfoldable pub kinds_there : Measure → Items → List Mask → Members → Opt
 kinds_there measure names masks doc =
     wanted as_array (codes "kind") doc
     or_else within (codes "kind") (each (kind_fault measure (list (codes "kind") doc) names masks) (kind_of measure names) [] (list (codes "kind") doc))
-    or_else test (codes "kind") Range (nat_le 1 (count (list (codes "kind") doc)) && nat_le (count (list (codes "kind") doc)) 64)
+    or_else test (codes "kind") Range (nat_le 1 (count (list (codes "kind") doc)) && nat_le (count (list (codes "kind") doc)) KIND_LIMIT)
     or_else within (codes "kind") (parted_fault [] (kinds_at measure names doc))
 
 unfoldable pub kinds_fault : Measure → Items → List Mask → Members → Option Fault

@@ -3,6 +3,7 @@ use Rattle.std.specs.Prelude.{ℕ, ℤ, pos, Bool, false, not, ◌&&◌, ◌||�
 use Rattle.std.specs.List.{list_any, list_all}
 use Rattle.std.specs.Option.{option_map_or}
 use Rattle.toml.specs.Data.{Data, Members, Items, get_item, as_str, as_array, as_table}
+use Rattle.rt_tech.specs.declared.limits.TheConstants.{LAYER_LIMIT, NAME_LIMIT}
 use Rattle.rt_tech.specs.declared.table.Mask.{Mask}
 use Rattle.rt_tech.specs.declared.table.Role.{Role as MaskRole}
 use Rattle.rt_tech.specs.declared.table.Role.TheVariants.{Metal, Cut}
@@ -12,7 +13,8 @@ use Rattle.rt_keys.specs.Document.{has, read_at, word, number, list, as_word, as
 use Rattle.rt_keys.specs.Faults.{◌or_else◌, test, test_here, within, wanted, unwanted, others, each}
 use Rattle.rt_keys.specs.Names.{named, is_first}
 use Rattle.rt_keys.specs.Numbers.{Measure, number_fault, length_fault, length_of, pair_fault, pair_of}
-use Rattle.rt_keys.specs.Words.{role_named, same_role, same_pair, is_ignored}
+use Rattle.rt_keys.specs.Words.{role_named, same_role}
+use Rattle.rt_tech.specs.Words.{same_pair, is_ignored}
 pub use Rattle.rt_tech.specs.Words.{has_role, is_single, may_have_text, may_be_lower, are_different}
 
 -- the keys of a mask
@@ -25,7 +27,7 @@ is_name_byte byte = (nat_le 97 byte && nat_le byte 122) || (nat_le 48 byte && na
 
 -- 1 to 32 of these bytes
 abbrev pub is_name : List ℕ → Bool
-is_name bytes = nat_le 1 (length bytes) && nat_le (length bytes) 32 && list_all is_name_byte bytes
+is_name bytes = nat_le 1 (length bytes) && nat_le (length bytes) NAME_LIMIT && list_all is_name_byte bytes
 
 -- the role that an entry tells, and a metal's where it tells none
 abbrev pub role_told : Members → Option MaskRole
@@ -77,12 +79,12 @@ role_fault before entry =
 
 -- layer
 unfoldable pub layer_fault : Members → Option Fault
-layer_fault entry = number_fault (pos 0) (pos 32767) (codes "layer") entry
+layer_fault entry = number_fault (pos 0) LAYER_LIMIT (codes "layer") entry
 
 -- datatype
 unfoldable pub datatype_fault : List (ℤ × ℤ) → List Mask → Members → Option Fault
 datatype_fault ignored before entry =
-    number_fault (pos 0) (pos 32767) (codes "datatype") entry
+    number_fault (pos 0) LAYER_LIMIT (codes "datatype") entry
     or_else test (codes "datatype") Duplicate (not (has_pair before (pair_at entry)))
     or_else test (codes "datatype") Clash (not (is_ignored ignored (pair_at entry)))
 

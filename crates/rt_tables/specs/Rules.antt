@@ -13,7 +13,7 @@ use Rattle.rt_keys.specs.Document.{list, inner, as_members, entries_of}
 use Rattle.rt_keys.specs.Faults.{◌or_else◌, test, test_here, within, wanted, allowed, unwanted, others, each}
 use Rattle.rt_tables.specs.Masks.{has_role, named_fault, numbered}
 use Rattle.rt_keys.specs.Numbers.{Measure, length_fault, length_of}
-pub use Rattle.rt_tech.specs.Rules.{is_role_at, is_upper_of, is_lower_of, is_under, is_over, has_enclose, is_enclosed, are_enclosed, same_on, has_apart, cross, is_on_another, may_be_apart, is_kept_from, is_kept_from_gate, is_kept_apart, are_kept_apart}
+pub use Rattle.rt_tech.specs.Rules.{is_role_at, is_upper_of, is_lower_of, has_upper, has_lower, has_enclose, is_enclosed, are_enclosed, same_on, has_apart, are_gate_and_active, is_on_another, may_be_apart, is_kept_from, is_kept_from_gate, is_kept_apart, are_kept_apart}
 
 -- the keys of an enclosure
 abbrev pub enclose_keys : List (List ℕ)
@@ -41,8 +41,8 @@ enclose_table_fault measure names masks before entry =
     or_else length_fault measure (pos 0) (codes "number") entry
     or_else others enclose_keys entry
     or_else test_here Duplicate (not (has_enclose before (numbered (codes "cut") names entry) (numbered (codes "mask") names entry)))
-    or_else test_here Clash (is_under masks (numbered (codes "cut") names entry) (numbered (codes "mask") names entry)
-    || is_over masks (numbered (codes "cut") names entry) (numbered (codes "mask") names entry))
+    or_else test_here Clash (has_upper masks (numbered (codes "cut") names entry) (numbered (codes "mask") names entry)
+    || has_lower masks (numbered (codes "cut") names entry) (numbered (codes "mask") names entry))
 
 -- an entry of the list
 unfoldable pub enclose_fault : Measure → Items → List Mask → List Enclose → Data → Option Fault
@@ -99,7 +99,7 @@ apart_keys = codes "a" ∷ codes "b" ∷ codes "number" ∷ codes "on" ∷ []
 
 -- on: it has to be there where a is a cut and b one of its lower masks, and nowhere else
 abbrev pub has_on : Items → List Mask → Members → Bool
-has_on names masks entry = is_over masks (numbered (codes "a") names entry) (numbered (codes "b") names entry)
+has_on names masks entry = has_lower masks (numbered (codes "a") names entry) (numbered (codes "b") names entry)
 
 unfoldable pub on_fault : Items → List Mask → Members → Option Fault
 on_fault names masks entry = if has_on names masks entry then named_fault (codes "on") names entry else unwanted (codes "on") entry

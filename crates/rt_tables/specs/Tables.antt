@@ -2,6 +2,7 @@
 use Rattle.std.specs.Prelude.{◌≡◌, ℕ, ℤ, pos, negsuc, Bool, not, ◌&&◌, ◌||◌, nat_le, List, [], ◌∷◌, Option, Some, None, is_some, is_ok, Result, Ok, Err, codes, bytes_eq}
 use Rattle.hex.specs.Hex.{decode_sized}
 use Rattle.toml.specs.Data.{Data, Members, Items, as_str, as_array}
+use Rattle.rt_tech.specs.declared.limits.TheConstants.{GRID_LIMIT, MASK_LIMIT}
 use Rattle.rt_tech.specs.declared.table.Mask.{Mask}
 use Rattle.rt_tech.specs.declared.table.Tech.{Tech}
 use Rattle.rt_tech.specs.declared.table.Which.{Which}
@@ -70,7 +71,7 @@ unfoldable pub masks_listed : Measure → List (ℤ × ℤ) → Items → Option
 masks_listed measure ignored values =
     within (codes "mask") (each (mask_fault measure values ignored) (mask_of measure values) [] values)
     or_else test (codes "mask") Missing (come_together (masks_of measure values))
-    or_else test (codes "mask") Range (nat_le 1 (count values) && nat_le (count values) 64)
+    or_else test (codes "mask") Range (nat_le 1 (count values) && nat_le (count values) MASK_LIMIT)
 
 abbrev pub masks_in : Which → Members → List Mask
 masks_in which doc = masks_of (measure_in which doc) (list (codes "mask") doc)
@@ -96,7 +97,7 @@ pub record AreRules (measure : Measure) (names : Items) (masks : List Mask) (doc
 unfoldable pub tech_fault : Which → Members → Option Fault
 tech_fault which doc =
     number_fault (pos 1) (pos 1) (codes "version") doc
-    or_else number_fault (pos 1) (pos 100) (codes "grid") doc
+    or_else number_fault (pos 1) GRID_LIMIT (codes "grid") doc
     or_else units_fault doc
     or_else unlisted_fault doc
     or_else ignore_fault doc

@@ -1,4 +1,5 @@
 ghost use Rattle.std.specs.Prelude.{length as count_of, ◌≤◌};
+ghost use Rattle.rt_tech.specs.declared.limits.TheConstants.{MASK_LIMIT};
 
 use rt_keys::names::Names;
 use rt_keys::scale::Scale;
@@ -10,5 +11,5 @@ pub(crate) struct Masks<'a> {
     pub names: &'a Names<'a>,
     pub masks: &'a [Mask],
     pub scale: &'a Scale,
-    ghost few: { count_of masks.now ≤ 64 },
+    ghost few: { count_of masks.now ≤ MASK_LIMIT },
 }

@@ -18,6 +18,7 @@ use rt_keys::keys::{entry_table, flag, list, others, unwanted, word};
 use rt_keys::names::Names;
 use rt_keys::numbers::{count, length};
 use rt_keys::stop::{Stop, at, at_entry, tested, tested_here};
+use rt_tech::limits::KIND_LIMIT;
 use rt_tech::{Kind, Near, Role, TableCause};
 use std::alloc::Global;
 use toml::{Table, Value};
@@ -201,7 +202,7 @@ fn kinds_listed(alloc: Global, masks: &Masks, table: &Table) -> Result<List<Kind
         masks,
     };
     let kinds = at(alloc, "kind", entries(alloc, &rule, values))?;
-    let is_allowed = 1 <= count(values) && count(values) <= 64;
+    let is_allowed = 1 <= count(values) && count(values) <= KIND_LIMIT;
     tested(alloc, "kind", TableCause::Range, is_allowed)?;
     at(alloc, "kind", parted(alloc, kinds.as_slice()))?;
     Ok(kinds)

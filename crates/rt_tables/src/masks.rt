@@ -1,6 +1,6 @@
 ghost use Rattle.std.specs.Prelude.{◌≡◌, ◌∷◌, IfOk, pos, true, false, ◌==◌, List as ListValue, ℤ, ℕ, unwrap_or, codes, not, is_some, MatchOption, Some, None, length as count_of};
 ghost use Rattle.std.specs.List.{list_any, list_all};
-ghost use Rattle.rt_keys.specs.Words.{same_pair as same_pair_of, same_role as same_role_of};
+ghost use Rattle.rt_tech.specs.Words.{same_pair as same_pair_of, same_role as same_role_of};
 ghost use Rattle.std.specs.Option.{option_map_or};
 ghost use Rattle.toml.specs.Data.{Members};
 ghost use Rattle.toml.specs.View.{view, table_view, items_view, array_view};
@@ -18,8 +18,9 @@ use rt_keys::names::Names;
 use rt_keys::numbers::{count, length, number_within, pair, value_at};
 use rt_keys::scale::Scale;
 use rt_keys::stop::{Stop, at, printable, refused, refused_here, tested, tested_here};
-use rt_keys::words::{is_ignored, role_named, same_pair, same_role};
-use rt_tech::{Mask, Role, TableCause};
+use rt_keys::words::{role_named, same_role};
+use rt_tech::limits::{LAYER_LIMIT, NAME_LIMIT};
+use rt_tech::{Mask, Role, TableCause, is_ignored, same_pair};
 use std::alloc::Global;
 use toml::{Table, Value};
 
@@ -32,7 +33,7 @@ const MASK_KEYS: [&str; 10] = [
 pub(crate) fn is_name(bytes: &[u8]) -> bool
     ensures { result ≡ is_name_of bytes.now }
 {
-    1 <= bytes.len() && bytes.len() <= 32 && are_name_bytes(bytes)
+    1 <= bytes.len() && bytes.len() <= NAME_LIMIT && are_name_bytes(bytes)
 }
 
 // Whether a name may have each of the bytes.
@@ -181,9 +182,9 @@ fn role(alloc: Global, before: &[Mask], table: &Table) -> Result<Role, Stop>
 
 // A number of a layer pair.
 fn layer_number(alloc: Global, table: &Table, key: &str) -> Result<i16, Stop>
-    ensures { Reads result (number_fault (pos 0) (pos 32767) key.now (table_view table.now)) (λ n. n ≡ number_at key.now (table_view table.now)) }
+    ensures { Reads result (number_fault (pos 0) LAYER_LIMIT key.now (table_view table.now)) (λ n. n ≡ number_at key.now (table_view table.now)) }
 {
-    let number = number_within(alloc, table, key, 0, 32767)?;
+    let number = number_within(alloc, table, key, 0, LAYER_LIMIT)?;
     Ok(number as i16)
 }
 

@@ -5,7 +5,7 @@ ghost use Rattle.rt_keys.specs.Document.{inner as inner_at, list as list_at};
 ghost use Rattle.rt_keys.specs.Faults.{Reads};
 ghost use Rattle.rt_tables.specs.Masks.{has_role as has_role_of, numbered};
 ghost use Rattle.rt_keys.specs.Numbers.{measure_of};
-ghost use Rattle.rt_tables.specs.Rules.{is_role_at as is_role_at_of, is_upper_of as is_upper_of_of, is_lower_of as is_lower_of_of, is_under as is_under_of, is_over as is_over_of, has_enclose as has_enclose_of, cut_fault, enclose_table_fault, enclose_fault, enclose_at, enclose_of, is_enclosed as is_enclosed_of, are_enclosed as are_enclosed_of, encloses_of, enclose_there, encloses_fault, channel_table_fault, channel_there, channel_fault, gates_at, gates_of, has_on, on_fault, on_at, same_on as same_on_of, has_apart as has_apart_of, cross as cross_of, is_on_another as is_on_another_of, may_be_apart as may_be_apart_of, apart_table_fault, apart_fault, apart_at, apart_of, is_kept_from as is_kept_from_of, is_kept_from_gate as is_kept_from_gate_of, is_kept_apart as is_kept_apart_of, are_kept_apart as are_kept_apart_of, aparts_of, aparts_fault};
+ghost use Rattle.rt_tables.specs.Rules.{is_role_at as is_role_at_of, is_upper_of as is_upper_of_of, is_lower_of as is_lower_of_of, has_upper as has_upper_of, has_lower as has_lower_of, has_enclose as has_enclose_of, cut_fault, enclose_table_fault, enclose_fault, enclose_at, enclose_of, is_enclosed as is_enclosed_of, are_enclosed as are_enclosed_of, encloses_of, enclose_there, encloses_fault, channel_table_fault, channel_there, channel_fault, gates_at, gates_of, has_on, on_fault, on_at, same_on as same_on_of, has_apart as has_apart_of, are_gate_and_active as are_gate_and_active_of, is_on_another as is_on_another_of, may_be_apart as may_be_apart_of, apart_table_fault, apart_fault, apart_at, apart_of, is_kept_from as is_kept_from_of, is_kept_from_gate as is_kept_from_gate_of, is_kept_apart as is_kept_apart_of, are_kept_apart as are_kept_apart_of, aparts_of, aparts_fault};
 
 use crate::context::Masks;
 use crate::masks::{contains, has_role, mask_named};
@@ -61,8 +61,8 @@ fn is_lower_of(cut: &Mask, n: u32) -> bool
 }
 
 // Whether mask number `cut` is a cut with this upper mask.
-fn is_under(masks: &[Mask], cut: u32, n: u32) -> bool
-    ensures { result ≡ is_under_of masks.now cut n }
+fn has_upper(masks: &[Mask], cut: u32, n: u32) -> bool
+    ensures { result ≡ has_upper_of masks.now cut n }
 {
     match masks.get(cut as usize) {
         Some(mask) => is_upper_of(mask, n),
@@ -71,8 +71,8 @@ fn is_under(masks: &[Mask], cut: u32, n: u32) -> bool
 }
 
 // Whether mask number `cut` is a cut with this lower mask.
-fn is_over(masks: &[Mask], cut: u32, n: u32) -> bool
-    ensures { result ≡ is_over_of masks.now cut n }
+fn has_lower(masks: &[Mask], cut: u32, n: u32) -> bool
+    ensures { result ≡ has_lower_of masks.now cut n }
 {
     match masks.get(cut as usize) {
         Some(mask) => is_lower_of(mask, n),
@@ -104,9 +104,9 @@ fn cut(alloc: Global, rule: &Masks, table: &Table) -> Result<u32, Stop>
 
 // Whether the cut, by its number, may be enclosed in the mask.
 fn may_enclose(masks: &[Mask], cut: u32, mask: u32) -> bool
-    ensures { result ≡ (is_under_of masks.now cut mask || is_over_of masks.now cut mask) }
+    ensures { result ≡ (has_upper_of masks.now cut mask || has_lower_of masks.now cut mask) }
 {
-    is_under(masks, cut, mask) || is_over(masks, cut, mask)
+    has_upper(masks, cut, mask) || has_lower(masks, cut, mask)
 }
 
 // The enclosure that an entry's table says.
@@ -264,8 +264,8 @@ fn has_apart(aparts: &[Apart], a: u32, on: Option<u32>, b: u32) -> bool
 }
 
 // Whether the one mask is the gate and the other the active.
-fn is_cross(masks: &[Mask], a: u32, b: u32) -> bool
-    ensures { result ≡ cross_of masks.now a b }
+fn are_gate_and_active(masks: &[Mask], a: u32, b: u32) -> bool
+    ensures { result ≡ are_gate_and_active_of masks.now a b }
 {
     is_role_at(masks, Role::Gate, a) && is_role_at(masks, Role::Active, b)
 }
@@ -276,7 +276,7 @@ fn is_on_another(masks: &[Mask], a: u32, on: Option<u32>, b: u32) -> bool
 {
     match on {
         None => true,
-        Some(on) => is_over(masks, a, on) && !(on == b),
+        Some(on) => has_lower(masks, a, on) && !(on == b),
     }
 }
 
@@ -285,12 +285,12 @@ fn may_be_apart(masks: &[Mask], a: u32, on: Option<u32>, b: u32) -> bool
     ensures { result ≡ may_be_apart_of masks.now a on b }
 {
     !(a == b)
-        && !is_cross(masks, a, b)
-        && !is_cross(masks, b, a)
+        && !are_gate_and_active(masks, a, b)
+        && !are_gate_and_active(masks, b, a)
         && is_on_another(masks, a, on, b)
-        && !is_under(masks, a, b)
-        && !is_under(masks, b, a)
-        && !is_over(masks, b, a)
+        && !has_upper(masks, a, b)
+        && !has_upper(masks, b, a)
+        && !has_lower(masks, b, a)
 }
 
 // The lower mask that an entry names beside its cut, where it has to.
@@ -300,7 +300,7 @@ fn on(alloc: Global, rule: &Masks, table: &Table, a: u32, b: u32) -> Result<Opti
     requires b { b ≡ numbered (codes "b") (items_view rule.now.names.now.values.now) (table_view table.now) }
     ensures { Reads result (on_fault (items_view rule.now.names.now.values.now) rule.now.masks.now (table_view table.now)) (λ n. n ≡ on_at (items_view rule.now.names.now.values.now) rule.now.masks.now (table_view table.now)) }
 {
-    if is_over(rule.masks, a, b) {
+    if has_lower(rule.masks, a, b) {
         let on = mask_named(alloc, rule.names, table, "on")?;
         Ok(Some(on))
     } else {

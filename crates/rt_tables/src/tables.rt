@@ -22,6 +22,7 @@ use rt_keys::names::Names;
 use rt_keys::numbers::{count, number_within, pair};
 use rt_keys::scale::Scale;
 use rt_keys::stop::{Stop, at, bad_table, refused, tested};
+use rt_tech::limits::{GRID_LIMIT, MASK_LIMIT};
 use rt_tech::{Apart, Enclose, Gates, Kind, Mask, Role, TableCause, Tech, Which};
 use std::alloc::Global;
 use toml::{Table, Value};
@@ -53,9 +54,9 @@ pub fn read_tech(alloc: Global, bytes: &[u8], which: Which) -> Result<Tech, Tabl
 
 // The grid of a document.
 fn grid(alloc: Global, table: &Table) -> Result<i64, Stop>
-    ensures { Reads result (number_fault (pos 1) (pos 100) (codes "grid") (table_view table.now)) (λ n. (n ≡ number_at (codes "grid") (table_view table.now)) × IsGrid n) }
+    ensures { Reads result (number_fault (pos 1) GRID_LIMIT (codes "grid") (table_view table.now)) (λ n. (n ≡ number_at (codes "grid") (table_view table.now)) × IsGrid n) }
 {
-    let grid = number_within(alloc, table, "grid", 1, 100)?;
+    let grid = number_within(alloc, table, "grid", 1, GRID_LIMIT)?;
     Ok(grid)
 }
 
@@ -134,7 +135,7 @@ fn masks_listed(
     scale: &Scale,
     ignored: &[(i16, i16)],
 ) -> Result<List<Mask>, Stop>
-    ensures { Reads result (masks_listed_fault (measure_of scale.now) ignored.now (items_view names.now.values.now)) (λ ms. (ms ≡ masks_of (measure_of scale.now) (items_view names.now.values.now)) × (count_of ms ≤ 64)) }
+    ensures { Reads result (masks_listed_fault (measure_of scale.now) ignored.now (items_view names.now.values.now)) (λ ms. (ms ≡ masks_of (measure_of scale.now) (items_view names.now.values.now)) × (count_of ms ≤ MASK_LIMIT)) }
 {
     let rule = MaskRule {
         names,
@@ -144,7 +145,7 @@ fn masks_listed(
     let masks = at(alloc, "mask", entries(alloc, &rule, names.values))?;
     let come_together = come_together(masks.as_slice());
     tested(alloc, "mask", TableCause::Missing, come_together)?;
-    let is_allowed = 1 <= count(names.values) && count(names.values) <= 64;
+    let is_allowed = 1 <= count(names.values) && count(names.values) <= MASK_LIMIT;
     tested(alloc, "mask", TableCause::Range, is_allowed)?;
     Ok(masks)
 }
@@ -176,7 +177,7 @@ fn rules_with(
     scale: &Scale,
     table: &Table,
 ) -> Result<Rules, Stop>
-    requires { count_of masks.now ≤ 64 }
+    requires { count_of masks.now ≤ MASK_LIMIT }
     ensures { Reads result (rules_fault (measure_of scale.now) (items_view names.now.values.now) masks.now (table_view table.now)) (AreRules (measure_of scale.now) (items_view names.now.values.now) masks.now (table_view table.now)) }
 {
     let masks = Masks {

@@ -22,11 +22,12 @@ is_upper_of cut n = same_role cut.role Cut && (cut.upper == n)
 abbrev pub is_lower_of : Mask → ℕ → Bool
 is_lower_of cut n = same_role cut.role Cut && list_any (λ m. n == m) cut.lowers
 
-abbrev pub is_under : List Mask → ℕ → ℕ → Bool
-is_under masks cut n = option_map_or (λ mask. is_upper_of mask n) (slice_get masks cut) false
+-- mask number cut is a cut, and mask number n is its upper mask, or one of its lower masks
+abbrev pub has_upper : List Mask → ℕ → ℕ → Bool
+has_upper masks cut n = option_map_or (λ mask. is_upper_of mask n) (slice_get masks cut) false
 
-abbrev pub is_over : List Mask → ℕ → ℕ → Bool
-is_over masks cut n = option_map_or (λ mask. is_lower_of mask n) (slice_get masks cut) false
+abbrev pub has_lower : List Mask → ℕ → ℕ → Bool
+has_lower masks cut n = option_map_or (λ mask. is_lower_of mask n) (slice_get masks cut) false
 
 -- one of the enclosures is of this cut and this mask
 abbrev pub has_enclose : List Enclose → ℕ → ℕ → Bool
@@ -52,20 +53,20 @@ same_on (Some m) (Some n) = m == n
 abbrev pub has_apart : List Apart → ℕ → Option ℕ → ℕ → Bool
 has_apart aparts a on b = list_any (λ x. (x.a == a) && same_on x.on on && (x.b == b)) aparts
 
--- the one is the gate and the other the active
-abbrev pub cross : List Mask → ℕ → ℕ → Bool
-cross masks a b = is_role_at Gate masks a && is_role_at Active masks b
+-- mask number a is the gate, and mask number b the active
+abbrev pub are_gate_and_active : List Mask → ℕ → ℕ → Bool
+are_gate_and_active masks a b = is_role_at Gate masks a && is_role_at Active masks b
 
 -- on, where it is there, is another lower mask of the cut
 abbrev pub is_on_another : List Mask → ℕ → Option ℕ → ℕ → Bool
 is_on_another masks a None b = true
-is_on_another masks a (Some on) b = is_over masks a on && not (on == b)
+is_on_another masks a (Some on) b = has_lower masks a on && not (on == b)
 
 -- the masks may have a distance: they differ and aren't the gate and the active, b is neither the upper mask of a nor a
 -- cut of which a is the upper or a lower mask, and on is another lower mask of a
 abbrev pub may_be_apart : List Mask → ℕ → Option ℕ → ℕ → Bool
 may_be_apart masks a on b =
-    not (a == b) && not (cross masks a b) && not (cross masks b a) && is_on_another masks a on b && not (is_under masks a b) && not (is_under masks b a) && not (is_over masks b a)
+    not (a == b) && not (are_gate_and_active masks a b) && not (are_gate_and_active masks b a) && is_on_another masks a on b && not (has_upper masks a b) && not (has_upper masks b a) && not (has_lower masks b a)
 
 -- the cut, number n, has a distance from its lower mask b where it stands on another lower mask
 abbrev pub is_kept_from : List Apart → ℕ → List ℕ → ℕ → Bool

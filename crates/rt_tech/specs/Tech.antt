@@ -1,5 +1,5 @@
 -- What a rule table says of its masks, which go by their numbers from 0, and which tables are valid.
-use Rattle.std.specs.Prelude.{◌≡◌, ◌≢◌, ℕ, ◌<◌, ◌≤◌, ℤ, pos, negsuc, ◌≤ℤ◌, ◌⊎◌, Bool, true, false, ◌||◌, List, [], ◌∷◌, length, All, AllPairs, Option, Some, None, IfSome, IsSomeAnd, IsTrue, IsFalse, slice_get, codes}
+use Rattle.std.specs.Prelude.{◌≡◌, ◌≢◌, ℕ, ◌<◌, ◌≤◌, ℤ, pos, negsuc, ◌≤ℤ◌, ◌⊎◌, Bool, true, false, ◌||◌, List, [], ◌∷◌, length, All, AllPairs, Option, Some, None, IfSome, IsSomeAnd, is_some, IsTrue, IsFalse, slice_get, codes}
 use Rattle.std.specs.List.{list_all}
 use Rattle.std.specs.Option.{option_map_or}
 use Rattle.rt_tech.specs.declared.table.Apart.{Apart}
@@ -9,7 +9,8 @@ use Rattle.rt_tech.specs.declared.table.Kind.{Kind}
 use Rattle.rt_tech.specs.declared.table.Near.{Near}
 use Rattle.rt_tech.specs.declared.table.Role.{Role as MaskRole}
 use Rattle.rt_tech.specs.declared.table.Role.TheVariants.{Metal, Active, Cut, Background}
-use Rattle.rt_tech.specs.Rules.{is_role_at, is_under, is_over, are_enclosed, may_be_apart, are_kept_apart, are_parted}
+use Rattle.rt_tech.specs.declared.limits.TheConstants.{GRID_LIMIT, MASK_LIMIT, KIND_LIMIT, NAME_LIMIT, LAYER_LIMIT, LENGTH_LIMIT}
+use Rattle.rt_tech.specs.Rules.{is_role_at, has_upper, has_lower, are_enclosed, may_be_apart, are_kept_apart, are_parted}
 use Rattle.rt_tech.specs.Words.{has_role, come_together, is_single, may_have_text, may_be_lower, are_different, is_ignored}
 use Rattle.rt_tech.specs.declared.table.Mask.{Mask}
 use Rattle.rt_tech.specs.declared.table.Tech.{Tech}
@@ -50,23 +51,23 @@ IsNameByte byte = ((97 ≤ byte) × (byte ≤ 122)) ⊎ ((48 ≤ byte) × (byte 
 -- 1 to 32 bytes of a to z, 0 to 9 and _
 pub record IsName (bytes : List ℕ) : Type 0 where
   pub some : 1 ≤ length bytes
-  pub few : length bytes ≤ 32
+  pub few : length bytes ≤ NAME_LIMIT
   pub plain : All IsNameByte bytes
 
 -- a layer or a data type that a table may name
 pub record IsLayer (number : ℤ) : Type 0 where
   pub low : pos 0 ≤ℤ number
-  pub high : number ≤ℤ pos 32767
+  pub high : number ≤ℤ LAYER_LIMIT
 
 -- a width or a space that a table can ask for
 pub record IsLength (number : ℤ) : Type 0 where
   pub low : pos 1 ≤ℤ number
-  pub high : number ≤ℤ pos 1000000
+  pub high : number ≤ℤ LENGTH_LIMIT
 
 -- how many database units a step may be
 pub record IsGrid (grid : ℤ) : Type 0 where
   pub low : pos 1 ≤ℤ grid
-  pub high : grid ≤ℤ pos 100
+  pub high : grid ≤ℤ GRID_LIMIT
 
 -- the layer pair of a mask's labels
 pub record IsNote (note : ℤ × ℤ) : Type 0 where
@@ -85,7 +86,7 @@ pub record IsValidMask (mask : Mask) : Type 0 where
   pub space : IsLength mask.space
 
 -- the two masks have different names, layer pairs and label pairs, and aren't both the gate or both the active
-pub record AreApart (a b : Mask) : Type 0 where
+pub record DoNotClash (a b : Mask) : Type 0 where
   pub names : a.name ≢ b.name
   pub pairs : pair_of a ≢ pair_of b
   pub notes : IfSome b.note (λ note. a.note ≢ Some note)
@@ -117,8 +118,8 @@ pub record IsKept (ignored : List (ℤ × ℤ)) (mask : Mask) : Type 0 where
 
 -- a layer pair that is passed over: -1 as its second number is every number
 pub record IsIgnorable (pair : ℤ × ℤ) : Type 0 where
-  pub layer : (negsuc 32767 ≤ℤ pair.0) × (pair.0 ≤ℤ pos 32767)
-  pub number : (negsuc 0 ≤ℤ pair.1) × (pair.1 ≤ℤ pos 32767)
+  pub layer : (negsuc 32767 ≤ℤ pair.0) × (pair.0 ≤ℤ LAYER_LIMIT)
+  pub number : (negsuc 0 ≤ℤ pair.1) × (pair.1 ≤ℤ LAYER_LIMIT)
 
 -- the masks of a table, together
 pub record AreValidMasks (ignored : List (ℤ × ℤ)) (masks : List Mask) : Type 0 where
@@ -129,12 +130,12 @@ pub record AreValidMasks (ignored : List (ℤ × ℤ)) (masks : List Mask) : Typ
 -- a number that may be 0
 pub record IsReach (number : ℤ) : Type 0 where
   pub low : pos 0 ≤ℤ number
-  pub high : number ≤ℤ pos 1000000
+  pub high : number ≤ℤ LENGTH_LIMIT
 
 -- an enclosure is of a cut, in its upper mask or one of its lower masks
 pub record IsValidEnclose (masks : List Mask) (enclose : Enclose) : Type 0 where
   pub cut : IsTrue (is_role_at Cut masks enclose.cut)
-  pub mask : IsTrue (is_under masks enclose.cut enclose.mask || is_over masks enclose.cut enclose.mask)
+  pub mask : IsTrue (has_upper masks enclose.cut enclose.mask || has_lower masks enclose.cut enclose.mask)
   pub number : IsReach enclose.number
 
 -- two enclosures of the same masks
@@ -154,10 +155,12 @@ pub record AreValidGates (gates : Gates) : Type 0 where
   pub ext : IsLength gates.ext
   pub cross : IsLength gates.cross
 
--- a distance between masks that may have one
+-- a distance between masks that may have one. It names a lower mask to stand on exactly where a is a cut and b one of its
+-- lower masks
 pub record IsValidApart (masks : List Mask) (apart : Apart) : Type 0 where
   pub first : apart.a < length masks
   pub second : apart.b < length masks
+  pub on : is_some apart.on ≡ has_lower masks apart.a apart.b
   pub stands : IsTrue (may_be_apart masks apart.a apart.on apart.b)
   pub number : IsLength apart.number
 
@@ -191,7 +194,7 @@ pub record IsValidKind (masks : List Mask) (kind : Kind) : Type 0 where
 -- the kinds of a table with an active: 1 to 64, with different names, and each two parted by a mask
 pub record AreValidKinds (masks : List Mask) (kinds : List Kind) : Type 0 where
   pub some_kinds : 1 ≤ length kinds
-  pub few_kinds : length kinds ≤ 64
+  pub few_kinds : length kinds ≤ KIND_LIMIT
   pub allowed : All (IsValidKind masks) kinds
   pub different : AllPairs (λ a b. a.name ≢ b.name) kinds
   pub parted : AllPairs (λ a b. IsTrue (are_parted b a)) kinds
@@ -205,9 +208,9 @@ HasChannels masks gates kinds false = (gates ≡ None) × (kinds ≡ [])
 pub record IsValidTech (tech : Tech) : Type 0 where
   pub grid : IsGrid tech.grid
   pub some_masks : 1 ≤ mask_count tech
-  pub few_masks : mask_count tech ≤ 64
+  pub few_masks : mask_count tech ≤ MASK_LIMIT
   pub masks : All IsValidMask tech.masks
-  pub apart : AllPairs AreApart tech.masks
+  pub apart : AllPairs DoNotClash tech.masks
   pub ignored : All IsIgnorable tech.ignored
   pub together : AreValidMasks tech.ignored tech.masks
   pub encloses : AreValidEncloses tech.masks tech.encloses
@@ -232,6 +235,6 @@ pub record AreDistinct (a b : Mask) : Type 0 where
 pub record IsMeasured (tech : Tech) : Type 0 where
   pub grid : IsGrid tech.grid
   pub some_masks : 1 ≤ mask_count tech
-  pub few_masks : mask_count tech ≤ 64
+  pub few_masks : mask_count tech ≤ MASK_LIMIT
   pub masks : All IsMeasuredMask tech.masks
   pub apart : AllPairs AreDistinct tech.masks

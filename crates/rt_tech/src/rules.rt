@@ -1,13 +1,27 @@
+//! How a rule of a table is named, and what a search for a broken one answers.
 use rt_base::Cell;
 use thiserror::Error;
 
-/// A rule of a table. The numbers are those of masks, from 0.
+/// A rule of a table. A rule that no table has yet is in no list of rules, and so is never answered: of these, all but
+/// `Width` and `Space`.
 #[derive(Clone, Copy, Debug, PartialEq, Eq, Drop)]
 pub enum RuleName {
-    /// The least width of a mask's shapes.
+    /// The least width of a mask's shapes. The number is that of the mask, from 0.
     Width(u32),
-    /// The least space between a mask's shapes.
+    /// The least space between a mask's shapes. The number is that of the mask, from 0.
     Space(u32),
+    /// The side of a cut's squares. The number is that of the cut's mask, from 0.
+    Size(u32),
+    /// An enclosure of a cut. The number is its place in the table's list of enclosures, from 0.
+    Enclose(u32),
+    /// How far a gate reaches at least past its channels.
+    Cap,
+    /// How far an active reaches at least past its channels.
+    Ext,
+    /// The least gap between gate alone and active alone.
+    Cross,
+    /// A distance between two masks. The number is its place in the table's list of distances, from 0.
+    Apart(u32),
 }
 
 /// Why a layout isn't found to keep the rules of a table.
@@ -24,7 +38,8 @@ pub enum RuleError {
         q: Cell,
         /// The extent or the gap that was found, in the units of the table.
         found: i64,
-        /// The least one that the rule allows, in the units of the table.
+        /// What the rule asks for, in the units of the table: of a size the one that it allows, of any other rule the
+        /// least one.
         needed: i64,
     },
     /// There was no memory for the search.

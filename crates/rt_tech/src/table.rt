@@ -1,3 +1,4 @@
+//! A rule table as a value, and what may be wrong with the document of one.
 use rt_base::{List, Text};
 
 /// What the shapes of a mask are for. (This project's own.)

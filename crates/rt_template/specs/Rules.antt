@@ -29,7 +29,7 @@ pub record MasksBeforeKeep (tech : Tech) (drawing : List Placed) (m : ℕ) : Typ
   pub earlier : (k : ℕ) → k < m → KeepsMaskRules (width_of tech k) (space_of tech k) drawing k
 
 -- the rule is the first that the drawing breaks, each mask's width before its space, mask by mask;
--- the cells p and q and the number found, below the number needed, show it
+-- the cells p and q and the number found, below the number needed, show it. Other rules aren't in the list yet
 abbrev pub IsFirstBreach : Tech → List Placed → RuleName → Cell → Cell → ℤ → ℤ → Type 0
 IsFirstBreach tech drawing (Width m) p q found needed =
     MasksBeforeKeep tech drawing m × (needed ≡ width_of tech m)
@@ -37,3 +37,4 @@ IsFirstBreach tech drawing (Width m) p q found needed =
 IsFirstBreach tech drawing (Space m) p q found needed =
     MasksBeforeKeep tech drawing m × KeepsWidth (width_of tech m) (covered_by m drawing) × (needed ≡ space_of tech m)
     × SpaceBreach needed (covered_by m drawing) p.x p.y q.x q.y found
+IsFirstBreach tech drawing _ p q found needed = ⊥

@@ -1,5 +1,5 @@
 use Rattle.std.proofs.Common.{◌≡◌, ◌++◌, drop, map, Some, Option}
-use Rattle.rt_sizes.specs.declared.given.Wish.{Wish}
+use Rattle.rt_tech.specs.declared.sizes.Wish.{Wish}
 use Rattle.rt_sizes.specs.Wishes.{lacking_fault, wished_from}
 use Rattle.rt_sizes.proofs.wishing.wished.Given as goal
 

@@ -1,3 +1,4 @@
+//! What a sizes file asks for, as values: the cell, its mirror, and the sizes of its devices.
 use rt_base::{List, Text};
 
 /// The length and the width that a device is to have, in steps of the target table, from 1. (This project's own.)
