@@ -1,16 +1,8 @@
-//! The program: it moves a drawn analog cell from one technology to another.
+//! The program: it moves a drawn analog cell from one technology to another, with the words of the process and over real files.
 #![tactic(auto)]
 
-mod answer;
-mod fetching;
-mod running;
-mod saying;
-#[cfg(test)]
-mod tests;
-mod words;
-
 use rt_desk::FileDesk;
-use running::{Status, run};
+use rt_run::{Status, run};
 use std::io::ErrorKind;
 use std::process::ExitCode;
 use std::{env, io};

@@ -1,8 +1,8 @@
 -- The names that a value of the program holds.
-use Rattle.rt_cli.specs.declared.words.Retarget.{Retarget}
-use Rattle.rt_cli.specs.declared.fetching.Inputs.{Inputs}
-use Rattle.rt_cli.specs.Words.{Names}
-use Rattle.rt_cli.specs.Outside.{Contents}
+use Rattle.rt_run.specs.declared.words.Retarget.{Retarget}
+use Rattle.rt_run.specs.declared.fetching.Inputs.{Inputs}
+use Rattle.rt_run.specs.Words.{Names}
+use Rattle.rt_run.specs.Outside.{Contents}
 
 -- the names as lists of bytes
 abbrev pub names_in : Retarget → Names

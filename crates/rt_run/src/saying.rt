@@ -1,6 +1,6 @@
 ghost use Rattle.std.specs.Prelude.{◌≡◌, ◌≤◌, [], MatchBool};
 ghost use Rattle.rt_lines.specs.Saying.{SaysLine};
-ghost use Rattle.rt_cli.specs.Answers.{line_of, line_of_refusal, line_of_unflattened, odd_word as word_of};
+ghost use Rattle.rt_run.specs.Answers.{line_of, line_of_refusal, line_of_unflattened, odd_word as word_of};
 
 use crate::answer::Answer;
 use gds_flat::{FlatError, Odd};

@@ -12,10 +12,10 @@ use Rattle.rt_retarget.specs.declared.answer.Fault.{Fault}
 use Rattle.rt_retarget.specs.declared.answer.Fault.TheVariants.{TableToml, BadTable, TablesDiffer, SizesToml, BadSizes, NotBuilt, BadStream, Unflattened, SourceRule}
 use Rattle.rt_retarget.specs.declared.answer.Fault.TheVariants as refused
 use Rattle.rt_retarget.specs.Answers.{IsDone, IsFaultOf}
-use Rattle.rt_cli.specs.declared.answer.Answer.{Answer}
-use Rattle.rt_cli.specs.declared.answer.Answer.TheVariants.{Done, Usage, Refused, NotFetched, NotStored, OutOfMemory}
-use Rattle.rt_cli.specs.Words.{Names, AreWordsFor}
-use Rattle.rt_cli.specs.Outside.{Kept, Seen, Contents, AreFetched, IsNotFetched, fetched_names}
+use Rattle.rt_run.specs.declared.answer.Answer.{Answer}
+use Rattle.rt_run.specs.declared.answer.Answer.TheVariants.{Done, Usage, Refused, NotFetched, NotStored, OutOfMemory}
+use Rattle.rt_run.specs.Words.{Names, AreWordsFor}
+use Rattle.rt_run.specs.Outside.{Kept, Seen, Contents, AreFetched, IsNotFetched, fetched_names}
 
 -- the status of each reason for which the source's cell isn't flattened
 abbrev pub number_of_unflattened : FlatError → ℕ

@@ -1,8 +1,8 @@
 ghost use Rattle.std.specs.Prelude.{◌≡◌};
-ghost use Rattle.rt_cli.specs.Words.{bytes_of};
-ghost use Rattle.rt_cli.specs.Outside.{kept, seen};
-ghost use Rattle.rt_cli.specs.Given.{names_in, contents_in};
-ghost use Rattle.rt_cli.specs.Answers.{Says, SaysOfNames, SaysOfContents, StoreSays, Answers, Ends, line_of, number_of};
+ghost use Rattle.rt_run.specs.Words.{bytes_of};
+ghost use Rattle.rt_run.specs.Outside.{kept, seen};
+ghost use Rattle.rt_run.specs.Given.{names_in, contents_in};
+ghost use Rattle.rt_run.specs.Answers.{Says, SaysOfNames, SaysOfContents, StoreSays, Answers, Ends, line_of, number_of};
 
 use crate::answer::Answer;
 use crate::fetching::{Inputs, fetch_all};

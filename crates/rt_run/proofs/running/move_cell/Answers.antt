@@ -1,7 +1,7 @@
 use Rattle.std.proofs.Common.{refl}
-use Rattle.rt_cli.specs.Given.{contents_in}
-use Rattle.rt_cli.proofs.Refused.{refusal_of_lists}
-use Rattle.rt_cli.proofs.running.move_cell.Goals as goal
+use Rattle.rt_run.specs.Given.{contents_in}
+use Rattle.rt_run.proofs.Refused.{refusal_of_lists}
+use Rattle.rt_run.proofs.running.move_cell.Goals as goal
 
 pub returns-in-Err-clause-says : goal.returns-in-Err-clause-says
 returns-in-Err-clause-says g c = (

@@ -1,7 +1,7 @@
 use Rattle.std.proofs.Common.{rules, w16, FitsSigned}
 use Rattle.std.proofs.lemmas.Int.{to_z-of_z}
-use Rattle.rt_cli.proofs.Ending.{layer_line}
-use Rattle.rt_cli.proofs.saying.say_unflattened.Goals as goal
+use Rattle.rt_run.proofs.Ending.{layer_line}
+use Rattle.rt_run.proofs.saying.say_unflattened.Goals as goal
 
 pub returns-in-UnmappedLayer-clause-line : goal.returns-in-UnmappedLayer-clause-line
 returns-in-UnmappedLayer-clause-line g c =

@@ -3,7 +3,7 @@ use Rattle.std.specs.Prelude.{◌≡◌, ℕ, ◌≤◌, List, [], ◌∷◌, �
 use Rattle.rt_desk.specs.declared.outside.DeskError.{DeskError}
 use Rattle.rt_desk.specs.declared.outside.DeskError.TheVariants.{Failed, Missing, TooLong, OutOfMemory}
 use Rattle.rt_desk.specs.Desk.{Files, Rose, IsFetched, IsAbsent, IsOverLong}
-use Rattle.rt_cli.specs.Words.{Names}
+use Rattle.rt_run.specs.Words.{Names}
 
 -- the files of a desk, where it tells them, and how many of its fetches and stores were faults
 pub record Kept : Type 0 where

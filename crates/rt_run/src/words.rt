@@ -1,6 +1,6 @@
 ghost use Rattle.std.specs.Prelude.{◌≡◌, ℕ, MatchBool, MatchOption};
-ghost use Rattle.rt_cli.specs.Words.{bytes_of, Names, IsFileWord, AreProper, AreWordsFor, words_of};
-ghost use Rattle.rt_cli.specs.Given.{names_in};
+ghost use Rattle.rt_run.specs.Words.{bytes_of, Names, IsFileWord, AreProper, AreWordsFor, words_of};
+ghost use Rattle.rt_run.specs.Given.{names_in};
 
 /// The names that the words of a retargeting give.
 #[derive(Clone, Copy, Drop)]

@@ -1,7 +1,7 @@
 use Rattle.std.proofs.Common.{◌≤◌, [], ◌∷◌, arith, ◌∙◌}
 use Rattle.std.proofs.lemmas.Result.{err_from_is_err_and}
-use Rattle.rt_cli.proofs.Fetches.{none_read, one_more_read, later_read, fetch_fails, later_fails}
-use Rattle.rt_cli.proofs.fetching.fetch_all.Goals as goal
+use Rattle.rt_run.proofs.Fetches.{none_read, one_more_read, later_read, fetch_fails, later_fails}
+use Rattle.rt_run.proofs.fetching.fetch_all.Goals as goal
 
 pub returns-in_err-source-clause-refused : goal.returns-in_err-source-clause-refused
 returns-in_err-source-clause-refused g c =

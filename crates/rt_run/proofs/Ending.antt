@@ -7,7 +7,7 @@ use Rattle.rt_desk.specs.declared.outside.DeskError.{DeskError}
 use Rattle.rt_desk.specs.Desk.{IsSaid, IsSaidInPart, IsFailedSay}
 use Rattle.rt_lines.specs.Lines.{source_rule_line, unmapped_layer_line}
 use Rattle.rt_lines.specs.Saying.{SaysLine}
-use Rattle.rt_cli.specs.Answers.{Ends, said, failed, no_memory}
+use Rattle.rt_run.specs.Answers.{Ends, said, failed, no_memory}
 
 pub said_ends : (old new : Option (List ℕ)) (faults faults_after : ℕ) (line : List ℕ) (number status : ℕ)
     → IsSaid old new line → status ≡ number → Ends old new faults faults_after line number status

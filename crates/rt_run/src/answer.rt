@@ -1,5 +1,5 @@
 ghost use Rattle.std.specs.Prelude.{◌≡◌};
-ghost use Rattle.rt_cli.specs.Answers.{number_of_refusal, number_of_unflattened, number_of_unfetched};
+ghost use Rattle.rt_run.specs.Answers.{number_of_refusal, number_of_unflattened, number_of_unfetched};
 
 use crate::fetching::Unfetched;
 use gds_flat::FlatError;
@@ -24,7 +24,7 @@ pub enum Answer<'a> {
 }
 
 impl<'a> Answer<'a> {
-    ghost use Rattle.rt_cli.specs.Answers.{number_of};
+    ghost use Rattle.rt_run.specs.Answers.{number_of};
 
     /// The exit status of the answer.
     pub fn number(&self) -> u8

@@ -1,7 +1,7 @@
 use Rattle.std.proofs.Common.{rules, w64, FitsSigned}
 use Rattle.std.proofs.lemmas.Int.{to_z-of_z}
-use Rattle.rt_cli.proofs.Ending.{rule_line}
-use Rattle.rt_cli.proofs.saying.say_refusal.Goals as goal
+use Rattle.rt_run.proofs.Ending.{rule_line}
+use Rattle.rt_run.proofs.saying.say_refusal.Goals as goal
 
 pub returns-in-SourceRule-clause-line : goal.returns-in-SourceRule-clause-line
 returns-in-SourceRule-clause-line g c =

@@ -1,6 +1,6 @@
 -- A list of seven words, by its items.
 use Rattle.std.proofs.Common.{◌≡◌, List, [], ◌∷◌, length, get_or, String, Global, string_bytes, refl, arith}
-use Rattle.rt_cli.specs.Words.{bytes_of}
+use Rattle.rt_run.specs.Words.{bytes_of}
 
 pub seven_words : (xs : List (String Global)) (a b c d e f g : String Global) → length xs ≡ 7
     → a ≡ get_or xs 0 a → b ≡ get_or xs 1 b → c ≡ get_or xs 2 c → d ≡ get_or xs 3 d → e ≡ get_or xs 4 e → f ≡ get_or xs 5 f → g ≡ get_or xs 6 g

@@ -5,7 +5,7 @@ use Rattle.std.proofs.lemmas.List.Elements.{All-nil, All-cons, All-append}
 use Rattle.rt_desk.specs.declared.outside.DeskError.{DeskError}
 use Rattle.rt_desk.specs.declared.outside.DeskError.TheVariants.{Failed, Missing, TooLong, OutOfMemory}
 use Rattle.rt_desk.specs.Desk.{Files, Rose, IsFetched, IsOverLong}
-use Rattle.rt_cli.specs.Outside.{file_limit, IsReadable, AreReadable, FetchFails, IsNotFetched}
+use Rattle.rt_run.specs.Outside.{file_limit, IsReadable, AreReadable, FetchFails, IsNotFetched}
 
 pub none_read : (files : Option Files) → AreReadable files []
 none_read None = tt

@@ -1,7 +1,7 @@
 ghost use Rattle.std.specs.Prelude.{◌≡◌, ◌≤◌, IfOk, IfErr};
 ghost use Rattle.rt_desk.specs.Desk.{IsFetched};
-ghost use Rattle.rt_cli.specs.Outside.{AreFetched, IsNotFetched, FetchFails, fetched_names, file_limit};
-ghost use Rattle.rt_cli.specs.Given.{names_in, contents_in};
+ghost use Rattle.rt_run.specs.Outside.{AreFetched, IsNotFetched, FetchFails, fetched_names, file_limit};
+ghost use Rattle.rt_run.specs.Given.{names_in, contents_in};
 
 use crate::words::Retarget;
 use rt_desk::{Desk, DeskError};

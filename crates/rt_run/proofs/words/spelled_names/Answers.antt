@@ -1,7 +1,7 @@
 use Rattle.std.proofs.Common.{◌≡◌, length, arith, rules, string_bytes, refl}
 use Rattle.std.specs.Prelude.{codes}
-use Rattle.rt_cli.proofs.Seven.{seven_words}
-use Rattle.rt_cli.proofs.words.spelled_names.Goals as goal
+use Rattle.rt_run.proofs.Seven.{seven_words}
+use Rattle.rt_run.proofs.words.spelled_names.Goals as goal
 
 pub returns : goal.returns
 returns c =

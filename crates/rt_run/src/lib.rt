@@ -1,0 +1,12 @@
+//! A run of the program over a desk: the words, the files that are fetched, the answer, its line and its status, and the store.
+#![tactic(auto)]
+
+mod answer;
+mod fetching;
+mod running;
+mod saying;
+#[cfg(test)]
+mod tests;
+mod words;
+
+pub use running::{Status, run};
