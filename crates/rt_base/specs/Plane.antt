@@ -4,10 +4,15 @@ use Rattle.rt_cells.specs.Rectangles.{Rectangle}
 use Rattle.rt_base.specs.declared.plane.Rect.{Rect}
 use Rattle.rt_base.specs.declared.plane.Orient.{Orient}
 
--- the magnitude is at most 2^61, so that sums and differences of two coordinates fit an i64
+-- a coordinate that is handed in: the magnitude is at most 2^61, so that sums and differences of two fit an i64
 pub record IsCoordinate (z : ℤ) : Type 0 where
   pub low : negsuc (2 ^ 61 - 1) ≤ℤ z
   pub high : z ≤ℤ pos (2 ^ 61)
+
+-- a side of a rectangle: the magnitude is at most 2^62 - 1, so that a difference of two fits an i64
+pub record IsSide (z : ℤ) : Type 0 where
+  pub low : negsuc (2 ^ 62 - 2) ≤ℤ z
+  pub high : z ≤ℤ pos (2 ^ 62 - 1)
 
 -- both coordinates of a point
 pub record AreCoordinates (p : ℤ × ℤ) : Type 0 where

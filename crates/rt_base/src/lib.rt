@@ -1,4 +1,4 @@
-//! Values that every layer shares: rectangles, cells, points and turns, lists and texts, and ledgers that count.
+//! Values that every layer shares: rectangles, cells, points and turns, lists and texts, and the ledger of pivots.
 #![tactic(auto)]
 
 mod ledger;
@@ -10,7 +10,7 @@ mod tests;
 mod text;
 mod turns;
 
-pub use ledger::{Pivots, Reads};
+pub use ledger::Pivots;
 pub use list::List;
 pub use memory::OutOfMemory;
 pub use plane::{Axis, Cell, Orient, Point, Rect, gap_x, gap_y};

@@ -3,7 +3,8 @@ ghost use Rattle.rt_cells.specs.Line.{gap_of};
 
 /// A rectangle of cells: the columns from `x1` up to, and without, `x2`, and the rows from `y1` up to, and without, `y2`.
 /// It has a cell at least. Units are those of where it stands: source database units, target steps or
-/// target database units. Magnitudes stay at or below 2^61, so that sums and differences of two fit an i64.
+/// target database units. Its sides have magnitudes of at most 2^62 - 1: a difference of two fits an i64, and a rectangle whose
+/// coordinates were handed in, which have magnitudes of at most 2^61, can grow by any number of a table. (This project's own.)
 #[derive(Clone, Copy, Debug, PartialEq, Eq, Drop)]
 pub struct Rect {
     /// The first column.
@@ -16,10 +17,10 @@ pub struct Rect {
     pub y2: i64,
     ghost across: { x1 <ℤ x2 },
     ghost upwards: { y1 <ℤ y2 },
-    ghost from_left: { negsuc (2 ^ 61 - 1) ≤ℤ x1 },
-    ghost to_right: { x2 ≤ℤ pos (2 ^ 61) },
-    ghost from_bottom: { negsuc (2 ^ 61 - 1) ≤ℤ y1 },
-    ghost to_top: { y2 ≤ℤ pos (2 ^ 61) },
+    ghost from_left: { negsuc (2 ^ 62 - 2) ≤ℤ x1 },
+    ghost to_right: { x2 ≤ℤ pos (2 ^ 62 - 1) },
+    ghost from_bottom: { negsuc (2 ^ 62 - 2) ≤ℤ y1 },
+    ghost to_top: { y2 ≤ℤ pos (2 ^ 62 - 1) },
 }
 
 /// A cell: the unit square whose lower left corner is (`x`, `y`).

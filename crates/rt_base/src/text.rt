@@ -1,4 +1,4 @@
-ghost use Rattle.std.specs.Prelude.{◌≡◌, ℕ, List as ListValue, MatchOption, nat_eq, refl};
+ghost use Rattle.std.specs.Prelude.{◌≡◌, ℕ, List as ListValue, MatchOption, IfOk, nat_eq, refl};
 ghost use Rattle.std.specs.Ordering.{nat_cmp, as_partial_cmp};
 ghost use Rattle.std.specs.Hash as fed;
 ghost use Rattle.std.specs.Cmp.Lexicographic.{pointwise, slice_cmp};
@@ -8,6 +8,8 @@ ghost use Rattle.std.proofs.Common.{rules};
 ghost use Rattle.rt_base.specs.Text.{IsText};
 
 use crate::list::List;
+use crate::memory::OutOfMemory;
+use std::alloc::Global;
 use std::cmp::Ordering;
 use std::hash::{Hash, Hasher};
 use std::marker::Model;
@@ -44,6 +46,16 @@ impl Text {
         ensures printable { IsText self.now }
     {
         self.bytes.as_slice()
+    }
+
+    /// The same text once more. The only error is a want of memory.
+    pub fn copy(&self, alloc: Global) -> Result<Text, OutOfMemory>
+        ensures { IfOk result (λ t. t ≡ self.now) }
+    {
+        let bytes = Vec::from_slice(alloc, self.as_slice())?;
+        Ok(Text {
+            bytes: List::of(bytes),
+        })
     }
 }
 

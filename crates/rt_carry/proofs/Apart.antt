@@ -3,14 +3,8 @@ use Rattle.std.proofs.Common.{ℤ, ◌≤ℤ◌, ◌<ℤ◌, ◌⊎◌, refl, ar
 use Rattle.std.proofs.lemmas.Int.{ints, clamps, by_lt_z}
 use Rattle.std.specs.Int.{int_max, int_min}
 use mathlib.Core.Logic.{inl, inr}
-use Rattle.rt_cells.specs.Line.{Within}
 use Rattle.rt_cells.specs.Rectangles.{Rectangle, IsNonempty, ShareCellOrSide}
-
-common_first : (low high low' high' : ℤ) → int_max low low' <ℤ int_min high high' → Within low high (int_max low low')
-common_first low high low' high' h = record { from = omega (arith, ints, clamps); to = omega (arith, ints, clamps) }
-
-common_second : (low high low' high' : ℤ) → int_max low low' <ℤ int_min high high' → Within low' high' (int_max low low')
-common_second low high low' high' h = record { from = omega (arith, ints, clamps); to = omega (arith, ints, clamps) }
+use Rattle.rt_cells.proofs.Lines.{common_first, common_second}
 
 overlap_of : (low high low' high' : ℤ) → low <ℤ high → low' <ℤ high' → low <ℤ high' → low' <ℤ high → int_max low low' <ℤ int_min high high'
 overlap_of low high low' high' h k m n = omega (arith, ints, clamps)

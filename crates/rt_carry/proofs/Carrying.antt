@@ -4,14 +4,15 @@ use Rattle.std.proofs.lemmas.Int.{ints, clamps, by_lt_z}
 use Rattle.std.specs.Int.{int_max, int_min}
 use mathlib.Core.Logic.{inl, inr}
 use Rattle.rt_cells.specs.Line.{Within, gap_of}
-use Rattle.rt_cells.specs.Islands.{columns_between, rows_between, AreIslands}
-use Rattle.rt_cells.proofs.Times.{not_negative, times_sum, times_le}
-use Rattle.rt_cells.proofs.Islands.{times_gap_of, islands_keep_width, islands_keep_space}
+use Rattle.rt_rules.specs.Islands.{AreIslands}
+use Rattle.rt_cells.specs.Rectangles.{columns_between, rows_between}
+use Rattle.rt_cells.proofs.Times.{not_negative, times_positive, times_beyond, times_gap}
+use Rattle.rt_rules.proofs.Islands.{islands_keep_width, islands_keep_space}
 use Rattle.rt_tech.specs.Tech.{width_of, space_of, IsMeasured}
 use Rattle.rt_rows.specs.declared.row.Var.{Var}
 use Rattle.rt_rows.specs.declared.row.Var.TheVariants.{L, R, B, T}
 use Rattle.rt_rows.specs.declared.name.Name.TheVariants.{Wide, Gap, Run}
-use Rattle.rt_rows.specs.Rows.{MeetsRow, beyond}
+use Rattle.rt_rows.proofs.Rows.{beyond_met}
 use Rattle.rt_template.specs.declared.job.Job.{Job}
 use Rattle.rt_template.specs.Strips.{mask_of, strip_at, left_of, right_of, bottom_of, top_of, areas_of}
 use Rattle.rt_template.specs.Standing.{IsStrip, AreOfOneMask, ShareRow}
@@ -26,10 +27,6 @@ use Rattle.rt_carry.proofs.Drawn.{drawn_for}
 use Rattle.rt_template.proofs.Separate.{none_stands, none_touches, none_climbed}
 use Rattle.rt_carry.proofs.Apart.{one_is_left, one_is_below}
 
--- a row that puts the second variable beyond the first
-pub beyond_holds : (at : Var → ℤ) (first second : Var) (by : ℤ) → MeetsRow at (beyond first second by) → (at first +ℤ by) ≤ℤ at second
-beyond_holds at first second by row = omega (arith, ints)
-
 wide_gap : (s low high low' high' : ℤ) → (high +ℤ s) ≤ℤ low' → s ≤ℤ gap_of low high low' high'
 wide_gap s low high low' high' h = omega (arith, ints, clamps)
 
@@ -42,23 +39,6 @@ nothing_more x = omega (arith, ints)
 first_column : (low w high : ℤ) → pos 1 ≤ℤ w → (low +ℤ w) ≤ℤ high → Within low high low
 first_column low w high p h = record { from = omega (arith, ints); to = omega (arith, ints) }
 
-below_itself : (low high : ℤ) → low <ℤ high → high ≡ low → ⊥
-below_itself low high h e = omega (arith, ints)
-
-times_beyond : (grid low w high : ℤ) → pos 0 ≤ℤ grid → (low +ℤ w) ≤ℤ high → (grid *ℤ low +ℤ grid *ℤ w) ≤ℤ (grid *ℤ high)
-times_beyond grid low w high h k = subst (λ z. z ≤ℤ (grid *ℤ high)) (times_sum grid low w) (times_le grid (low +ℤ w) high h k)
-
-times_gap : (grid s low high low' high' : ℤ) → pos 0 ≤ℤ grid → s ≤ℤ gap_of low high low' high'
-    → (grid *ℤ s) ≤ℤ gap_of (grid *ℤ low) (grid *ℤ high) (grid *ℤ low') (grid *ℤ high')
-times_gap grid s low high low' high' h k =
-    subst (λ z. (grid *ℤ s) ≤ℤ z) (times_gap_of grid low high low' high' h) (times_le grid s (gap_of low high low' high') h k)
-
-positive_from : (p a : ℤ) → (a *ℤ pos 1) ≤ℤ p → pos 1 ≤ℤ a → pos 1 ≤ℤ p
-positive_from p a h k = omega (arith, ints)
-
-times_positive : (a b : ℤ) → pos 1 ≤ℤ a → pos 1 ≤ℤ b → pos 1 ≤ℤ (a *ℤ b)
-times_positive a b h k = positive_from (a *ℤ b) a (times_le a (pos 1) b (not_negative a h) k) h
-
 turned_overlap : (low high low' high' : ℤ) → int_max low low' <ℤ int_min high high' → int_max low' low <ℤ int_min high' high
 turned_overlap low high low' high' h = omega (arith, ints, clamps)
 
@@ -68,7 +48,7 @@ module _ (job : Job) (at : Var → ℤ) (separate : AreSeparateStrips (strips_of
 
   -- each strip is drawn as wide as wanted
   drawn_wide : MeetsAcross job at → (i : ℕ) → IsStrip (strips_of job) i → (at (L i) +ℤ width_wanted job i) ≤ℤ at (R i)
-  drawn_wide across i strip = beyond_holds at (L i) (R i) (width_wanted job i) (across.meets (Wide i) strip)
+  drawn_wide across i strip = beyond_met at (L i) (R i) (width_wanted job i) (across.meets (Wide i) strip)
 
   -- each strip is drawn as high as wanted
   drawn_tall : IsMeasured job.target → MeetsAcross job at → MeetsUpwards job at at → (i : ℕ) → IsStrip (strips_of job) i → (at (B i) +ℤ width_wanted job i) ≤ℤ at (T i)
@@ -82,13 +62,13 @@ module _ (job : Job) (at : Var → ℤ) (separate : AreSeparateStrips (strips_of
         lowest = λ k _. none_stands (strips_of job) separate k i;
         highest = λ k _. none_stands (strips_of job) separate i k;
       } in
-      beyond_holds at (B i) (T i) (width_wanted job i) (upwards.meets (Run i i) whole)
+      beyond_met at (B i) (T i) (width_wanted job i) (upwards.meets (Run i i) whole)
 
   right_apart : MeetsAcross job at → (i j : ℕ) → AreOfOneMask (strips_of job) i j → ShareRow (strips_of job) i j → right_of (strips_of job) i ≤ℤ left_of (strips_of job) j
       → space_wanted job i ≤ℤ columns_apart job at i j
   right_apart across i j both row right =
       wide_gap (space_wanted job i) (at (L i)) (at (R i)) (at (L j)) (at (R j))
-      (beyond_holds at (R i) (L j) (space_wanted job i)
+      (beyond_met at (R i) (L j) (space_wanted job i)
       (across.meets (Gap i j) (record { strips_of_one_mask = both; untouched = none_touches (strips_of job) separate i j; right_of = right; near = inl row })))
 
   above_apart : MeetsUpwards job at at → (i j : ℕ) → AreOfOneMask (strips_of job) i j → top_of (strips_of job) i ≤ℤ bottom_of (strips_of job) j
@@ -96,7 +76,7 @@ module _ (job : Job) (at : Var → ℤ) (separate : AreSeparateStrips (strips_of
   above_apart upwards i j both above =
       by_lt_z (columns_apart job at i j) (space_wanted job i)
       (λ near. inr (wide_gap (space_wanted job i) (at (B i)) (at (T i)) (at (B j)) (at (T j))
-      (beyond_holds at (T i) (B j) (space_wanted job i)
+      (beyond_met at (T i) (B j) (space_wanted job i)
       (upwards.meets (Gap i j) (record { strips_of_one_mask = both; untouched = none_touches (strips_of job) separate i j; above = above; near = near; open_to = inl (none_climbed (strips_of job) separate i j) })))))
       (λ far. inl far)
 

@@ -5,20 +5,13 @@ use Rattle.rt_tech.specs.Tech.{IsMeasured}
 use Rattle.rt_rows.specs.declared.row.Var.{Var}
 use Rattle.rt_rows.specs.declared.row.Var.TheVariants.{L, R, B, T, Width, Height}
 use Rattle.rt_rows.specs.declared.name.Name.TheVariants.{Lo, Hi, Top, Wide, Tall}
-use Rattle.rt_rows.specs.Rows.{MeetsRow, at_least, at_most}
+use Rattle.rt_rows.proofs.Rows.{at_least_met, at_most_met, beyond_met}
 use Rattle.rt_template.specs.declared.job.Job.{Job}
 use Rattle.rt_template.specs.Strips.{mask_of}
 use Rattle.rt_template.specs.Across.{strips_of, extent_limit, width_wanted, MeetsAcross}
 use Rattle.rt_template.specs.Upwards.{MeetsUpwards}
 use Rattle.rt_carry.specs.Shapes.{IsInExtent, AreAllInExtent}
 use Rattle.rt_carry.proofs.Valid.{width_positive}
-use Rattle.rt_carry.proofs.Carrying.{beyond_holds}
-
-at_least_holds : (at : Var → ℤ) (v : Var) (least : ℤ) → MeetsRow at (at_least v least) → least ≤ℤ at v
-at_least_holds at v least row = omega (arith, ints)
-
-at_most_holds : (at : Var → ℤ) (v : Var) (most : ℤ) → MeetsRow at (at_most v most) → at v ≤ℤ most
-at_most_holds at v most row = omega (arith, ints)
 
 one_is_positive : pos 1 ≤ℤ pos 1
 one_is_positive = omega (arith, ints)
@@ -42,15 +35,15 @@ high_side low w high extent a b c d e = record { low = high_low low w high a b c
 pub all_in_extent : (job : Job) (at : Var → ℤ) → IsMeasured job.target → MeetsAcross job at → MeetsUpwards job at at → AreAllInExtent job at
 all_in_extent job at valid across upwards = record {
   strips = λ i strip.
-      let low = at_least_holds at (L i) (pos 0) (across.meets (Lo i) strip) in
-      let wide = beyond_holds at (L i) (R i) (width_wanted job i) (across.meets (Wide i) strip) in
+      let low = at_least_met at (L i) (pos 0) (across.meets (Lo i) strip) in
+      let wide = beyond_met at (L i) (R i) (width_wanted job i) (across.meets (Wide i) strip) in
       let width = width_positive job.target valid (mask_of (strips_of job) i) in
-      let end = beyond_holds at (R i) Width (pos 0) (across.meets (Hi i) strip) in
-      let limit = at_most_holds at Width extent_limit (across.meets Top tt) in
-      let low' = at_least_holds at (B i) (pos 0) (upwards.meets (Lo i) strip) in
-      let tall = beyond_holds at (B i) (T i) (pos 1) (upwards.meets (Tall i) strip) in
-      let end' = beyond_holds at (T i) Height (pos 0) (upwards.meets (Hi i) strip) in
-      let limit' = at_most_holds at Height extent_limit (upwards.meets Top tt) in
+      let end = beyond_met at (R i) Width (pos 0) (across.meets (Hi i) strip) in
+      let limit = at_most_met at Width extent_limit (across.meets Top tt) in
+      let low' = at_least_met at (B i) (pos 0) (upwards.meets (Lo i) strip) in
+      let tall = beyond_met at (B i) (T i) (pos 1) (upwards.meets (Tall i) strip) in
+      let end' = beyond_met at (T i) Height (pos 0) (upwards.meets (Hi i) strip) in
+      let limit' = at_most_met at Height extent_limit (upwards.meets Top tt) in
       record {
         left = low_side (at (L i)) (width_wanted job i) (at (R i)) (at Width) low wide width end limit;
         right = high_side (at (L i)) (width_wanted job i) (at (R i)) (at Width) low wide width end limit;

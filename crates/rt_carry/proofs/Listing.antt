@@ -16,25 +16,21 @@ use Rattle.rt_template.specs.Drawing.{drawn_area, drawn}
 use Rattle.rt_template.specs.Separate.{AreOnMasksOf}
 use Rattle.gds_stream.specs.declared.cell.Shape.{Shape}
 use Rattle.rt_carry.specs.Shapes.{layer_of_mask, datatype_of_mask, shape_of, strip_drawn}
+use Rattle.rt_template.proofs.Strips.{strip_there, strip_is}
 use Rattle.rt_carry.proofs.Drawn.{length_drawn_from, drawn_from_at}
-
--- a job has as many strips as its list
-pub strip_there : (job : Job) (i : ℕ) → i < length job.strips → IsStrip (strips_of job) i
-strip_there job i h = record { below_count = subst (λ n. i < n) (sym (length-map job.strips placed)) h }
 
 -- the mask of strip i
 mask_is : (job : Job) (i : ℕ) (strip : Strip) (strips : List Strip) → i < length job.strips → strips ≡ job.strips → strip ≡ get_or strips i strip
     → mask_of (strips_of job) i ≡ strip.mask
 mask_is job i strip strips h e is =
-    ap (λ p. p.mask) (get_or-map placed job.strips i strip no_strip h)
-    ∙ ap (λ (t : Strip). t.mask) (subst (λ xs. get_or xs i strip ≡ strip) e (sym is))
+    ap (λ p. p.mask) (strip_is job.strips i strip h (subst (λ xs. strip ≡ get_or xs i strip) e is))
 
 -- it is one of the table's
 pub mask_there : (job : Job) (i : ℕ) (strip : Strip) (strips : List Strip) (masks : List Mask) → AreOnMasksOf job.target (strips_of job) → i < length job.strips
     → strips ≡ job.strips → strip ≡ get_or strips i strip → masks ≡ job.target.masks → strip.mask < length masks
 mask_there job i strip strips masks on h e is same =
     subst (λ xs. strip.mask < length xs) (sym same)
-    (subst (λ m. m < length job.target.masks) (mask_is job i strip strips h e is) (on.masks i (strip_there job i h)))
+    (subst (λ m. m < length job.target.masks) (mask_is job i strip strips h e is) (on.masks i (strip_there job.strips i h)))
 
 shape_from : (o : Option Mask) (r : Rectangle) (layer datatype x1 y1 x2 y2 : ℤ) → layer ≡ layer_of_mask o → datatype ≡ datatype_of_mask o
     → x1 ≡ r.left → y1 ≡ r.bottom → x2 ≡ r.right → y2 ≡ r.top
@@ -63,7 +59,7 @@ pub one_shape_more : (job : Job) (at : Var → ℤ) (i : ℕ) → i < length job
 one_shape_more job at i h =
     let grid = job.target.grid in
     let strips = strips_of job in
-    let here = strip_there job i h in
+    let here = strip_there job.strips i h in
     map_more (shape_of job.target) (drawn grid at strips) i no_strip (subst (λ n. i < n) (sym (length_drawn_from grid at 0 strips)) here.below_count)
     ∙ ap (λ p. map (shape_of job.target) (take i (drawn grid at strips)) ++ shape_of job.target p ∷ [])
     (drawn_from_at grid at 0 strips i no_strip here.below_count ∙ ap (λ k. record { mask = mask_of strips i; area = drawn_area grid at k }) (omega arith))

@@ -10,21 +10,13 @@ use Rattle.rt_rows.specs.declared.name.Name.TheVariants.{Lo, Hi, Zero, Top, Wide
 use Rattle.rt_rows.specs.declared.positions.Positions.{Positions}
 use Rattle.rt_rows.specs.Rows.{MeetsRow, at_least, at_most, beyond}
 use Rattle.rt_rows.specs.Places.{places}
+use Rattle.rt_rows.proofs.Rows.{at_least_meets, at_most_meets, beyond_meets}
 use Rattle.rt_template.specs.declared.job.Job.{Job}
 use Rattle.rt_template.specs.Strips.{placed, mask_of, left_of, right_of, bottom_of, top_of}
 use Rattle.rt_template.specs.Standing.{IsStrip}
 use Rattle.rt_template.specs.Across.{strips_of, extent_limit, width_wanted, InAcross, row_across, MeetsAcross}
 use Rattle.rt_template.specs.Upwards.{IsChain, InUpwards, row_upwards, MeetsUpwards}
 use Rattle.rt_template.specs.Upwards.IsChain.{one, onward}
-
-met_at_least : (at : Var → ℤ) (v : Var) (least : ℤ) → least ≤ℤ at v → MeetsRow at (at_least v least)
-met_at_least at v least h = record { holds = omega (arith, ints) }
-
-met_at_most : (at : Var → ℤ) (v : Var) (most : ℤ) → at v ≤ℤ most → MeetsRow at (at_most v most)
-met_at_most at v most h = record { holds = omega (arith, ints) }
-
-met_beyond : (at : Var → ℤ) (a b : Var) (by : ℤ) → (at a +ℤ by) ≤ℤ at b → MeetsRow at (beyond a b by)
-met_beyond at a b by h = record { holds = omega (arith, ints) }
 
 clash : (p q p' q' : ℤ) → p' <ℤ q' → q ≤ℤ p → p ≡ p' → q ≡ q' → ⊥
 clash p q p' q' a b c d = omega (arith, ints)
@@ -88,12 +80,12 @@ module _ (job : Job) (at : Var → ℤ) (sample : IsSampleJob job) (here : AreSa
   one_higher p q a b = omega (arith, ints)
 
   met_across : (name : Name) → InAcross job name → MeetsRow at (row_across job name)
-  met_across (Lo i) strip = at_any (λ k. MeetsRow at (at_least (L k) (pos 0))) i strip (met_at_least at (L 0) (pos 0) (from_none (at (L 0)) 1 here.left))
-  met_across (Hi i) strip = at_any (λ k. MeetsRow at (beyond (R k) Width (pos 0))) i strip (met_beyond at (R 0) Width (pos 0) (up_to (at (R 0)) (at Width) 4 here.right here.width))
-  met_across Zero _ = met_at_least at Width (pos 0) (from_none (at Width) 4 here.width)
-  met_across Top _ = met_at_most at Width extent_limit (within_limit (at Width) 4 here.width (omega arith))
+  met_across (Lo i) strip = at_any (λ k. MeetsRow at (at_least (L k) (pos 0))) i strip (at_least_meets at (L 0) (pos 0) (from_none (at (L 0)) 1 here.left))
+  met_across (Hi i) strip = at_any (λ k. MeetsRow at (beyond (R k) Width (pos 0))) i strip (beyond_meets at (R 0) Width (pos 0) (up_to (at (R 0)) (at Width) 4 here.right here.width))
+  met_across Zero _ = at_least_meets at Width (pos 0) (from_none (at Width) 4 here.width)
+  met_across Top _ = at_most_meets at Width extent_limit (within_limit (at Width) 4 here.width (omega arith))
   met_across (Wide i) strip = at_any (λ k. MeetsRow at (beyond (L k) (R k) (width_wanted job k))) i strip
-      (met_beyond at (L 0) (R 0) (width_wanted job 0) (beside (at (L 0)) (at (R 0)) (width_wanted job 0) here.left here.right wanted))
+      (beyond_meets at (L 0) (R 0) (width_wanted job 0) (beside (at (L 0)) (at (R 0)) (width_wanted job 0) here.left here.right wanted))
   met_across (Gap i j) kept = absurd (clash (left_of (strips_of job) j) (right_of (strips_of job) i) (left_of (strips_of job) 0) (right_of (strips_of job) 0) sample.columns kept.right_of
       (ap (left_of (strips_of job)) (only_one job sample j kept.strips_of_one_mask.second)) (ap (right_of (strips_of job)) (only_one job sample i kept.strips_of_one_mask.first)))
   met_across (Tall i) none = absurd none
@@ -108,17 +100,17 @@ module _ (job : Job) (at : Var → ℤ) (sample : IsSampleJob job) (here : AreSa
   last_of x more i _ (onward j k chain stands covers) = covers.strip
 
   met_upwards : (name : Name) → InUpwards job at name → MeetsRow at (row_upwards job at name)
-  met_upwards (Lo i) strip = at_any (λ k. MeetsRow at (at_least (B k) (pos 0))) i strip (met_at_least at (B 0) (pos 0) (from_none (at (B 0)) 2 here.bottom))
-  met_upwards (Hi i) strip = at_any (λ k. MeetsRow at (beyond (T k) Height (pos 0))) i strip (met_beyond at (T 0) Height (pos 0) (up_to (at (T 0)) (at Height) 6 here.top here.height))
-  met_upwards Zero _ = met_at_least at Height (pos 0) (from_none (at Height) 6 here.height)
-  met_upwards Top _ = met_at_most at Height extent_limit (within_limit (at Height) 6 here.height (omega arith))
-  met_upwards (Tall i) strip = at_any (λ k. MeetsRow at (beyond (B k) (T k) (pos 1))) i strip (met_beyond at (B 0) (T 0) (pos 1) (one_higher (at (B 0)) (at (T 0)) here.bottom here.top))
+  met_upwards (Lo i) strip = at_any (λ k. MeetsRow at (at_least (B k) (pos 0))) i strip (at_least_meets at (B 0) (pos 0) (from_none (at (B 0)) 2 here.bottom))
+  met_upwards (Hi i) strip = at_any (λ k. MeetsRow at (beyond (T k) Height (pos 0))) i strip (beyond_meets at (T 0) Height (pos 0) (up_to (at (T 0)) (at Height) 6 here.top here.height))
+  met_upwards Zero _ = at_least_meets at Height (pos 0) (from_none (at Height) 6 here.height)
+  met_upwards Top _ = at_most_meets at Height extent_limit (within_limit (at Height) 6 here.height (omega arith))
+  met_upwards (Tall i) strip = at_any (λ k. MeetsRow at (beyond (B k) (T k) (pos 1))) i strip (beyond_meets at (B 0) (T 0) (pos 1) (one_higher (at (B 0)) (at (T 0)) here.bottom here.top))
   met_upwards (Gap i j) kept = absurd (clash (bottom_of (strips_of job) j) (top_of (strips_of job) i) (bottom_of (strips_of job) 0) (top_of (strips_of job) 0) sample.rows kept.above
       (ap (bottom_of (strips_of job)) (only_one job sample j kept.strips_of_one_mask.second)) (ap (top_of (strips_of job)) (only_one job sample i kept.strips_of_one_mask.first)))
   met_upwards (Run i j) whole =
       at_any (λ k. MeetsRow at (beyond (B k) (T j) (width_wanted job k))) i (first_of whole.x whole.more i j whole.chain)
       (at_any (λ k. MeetsRow at (beyond (B 0) (T k) (width_wanted job 0))) j (last_of whole.x whole.more i j whole.chain)
-      (met_beyond at (B 0) (T 0) (width_wanted job 0) (above (at (B 0)) (at (T 0)) (width_wanted job 0) here.bottom here.top wanted)))
+      (beyond_meets at (B 0) (T 0) (width_wanted job 0) (above (at (B 0)) (at (T 0)) (width_wanted job 0) here.bottom here.top wanted)))
   met_upwards (Wide i) none = absurd none
 
   -- the positions meet both templates

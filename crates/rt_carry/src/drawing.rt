@@ -32,8 +32,8 @@ pub fn draw(
     ensures { IfOk result (λ flat. IsDrawingOf job.now (places at.now) library.now cell.now flat) }
 {
     Ok(Flat {
-        library: copied(alloc, library)?,
-        name: copied(alloc, cell)?,
+        library: library.copy(alloc)?,
+        name: cell.copy(alloc)?,
         units: job.target.units,
         shapes: shapes(alloc, job, at)?,
         texts: List::new(alloc),
@@ -84,15 +84,4 @@ fn in_units(tech: &Tech, steps: i64) -> i32
     ensures { result ≡ tech.now.grid *ℤ steps }
 {
     (tech.grid * steps) as i32
-}
-
-// The text once more.
-fn copied(alloc: Global, text: &Text) -> Result<Text, OutOfMemory>
-    ensures { IfOk result (λ copy. copy ≡ text.now) }
-{
-    let bytes = List::of(text.as_slice().to_vec(alloc)?);
-    let Some(copy) = Text::of(bytes) else {
-        unreachable!()
-    };
-    Ok(copy)
 }

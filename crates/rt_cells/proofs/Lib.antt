@@ -1,6 +1,4 @@
 pub mod Lines
 pub mod Times
-pub mod Breaches
-pub mod Families
-pub mod Separate
-pub mod Islands
+pub mod Lists
+pub mod Rectangles

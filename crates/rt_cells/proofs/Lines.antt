@@ -43,6 +43,13 @@ at_most p q h = omega (arith, ints)
 pub antisymmetric : (a b : ℤ) → a ≤ℤ b → b ≤ℤ a → a ≡ b
 antisymmetric a b h k = omega (arith, ints)
 
+-- the first place that two intervals have in common lies in both
+pub common_first : (low high low' high' : ℤ) → int_max low low' <ℤ int_min high high' → Within low high (int_max low low')
+common_first low high low' high' h = within _ _ _ (omega (arith, ints, clamps)) (omega (arith, ints, clamps))
+
+pub common_second : (low high low' high' : ℤ) → int_max low low' <ℤ int_min high high' → Within low' high' (int_max low low')
+common_second low high low' high' h = within _ _ _ (omega (arith, ints, clamps)) (omega (arith, ints, clamps))
+
 upwards : (P : ℤ → Type 0) (low high : ℤ) → ((z t : ℤ) → Within low high z → Within low high t → Adjacent z t → P z → P t)
     → (n : ℕ) (x u : ℤ) → u ≡ x +ℤ pos n → low ≤ℤ x → u <ℤ high → P x → P u
 upwards P low high step zero x u e h k p = let s : x ≡ u = omega (arith, ints) in subst P s p
@@ -68,18 +75,6 @@ passed_along P low high step x u h k p =
 -- the nearest place of an interval is one of its places
 pub nearest_within : (low high other : ℤ) → low <ℤ high → Within low high (nearest_place low high other)
 nearest_within low high other h = within _ _ _ (omega (arith, ints, clamps)) (omega (arith, ints, clamps))
-
--- of a place up to the first place of an interval, the first is the nearest
-pub nearest_first : (low high other : ℤ) → low <ℤ high → other ≤ℤ low → nearest_place low high other ≡ low
-nearest_first low high other h k = omega (arith, ints, clamps)
-
--- of a place after an interval, the last is the nearest
-pub nearest_last : (low high other : ℤ) → low <ℤ high → high ≤ℤ other → nearest_place low high other ≡ high -ℤ pos 1
-nearest_last low high other h k = omega (arith, ints, clamps)
-
--- of a place in an interval, it is itself the nearest
-pub nearest_inside : (low high other : ℤ) → Within low high other → nearest_place low high other ≡ other
-nearest_inside low high other h = omega (arith, ints, clamps)
 
 -- as many places lie between the nearest places of two intervals as between the intervals
 pub nearest_between : (low high low' high' : ℤ) → low <ℤ high → low' <ℤ high'

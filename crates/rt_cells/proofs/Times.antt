@@ -1,13 +1,10 @@
 -- Products of signed numbers: sums, differences, order and cancelling.
-use Rattle.std.proofs.Common.{◌≡◌, zero, suc, ℤ, pos, negsuc, neg_ℤ, ◌+ℤ◌, ◌-ℤ◌, ◌*ℤ◌, ◌≤ℤ◌, ◌<ℤ◌, sym, ap, ◌∙◌, arith}
+use Rattle.std.proofs.Common.{◌≡◌, zero, suc, ℤ, pos, negsuc, neg_ℤ, ◌+ℤ◌, ◌-ℤ◌, ◌*ℤ◌, ◌≤ℤ◌, ◌<ℤ◌, sym, ap, subst, ◌∙◌, arith}
 use Rattle.std.proofs.lemmas.Int.{ints, clamps, by_lt_z}
 use Rattle.std.specs.Int.{int_max, int_min}
+use Rattle.rt_cells.specs.Line.{gap_of}
 use Rattle.rt_cells.proofs.Lines.{at_most}
-use lib.IntN.{*ℤ_comm, ℤ_ind, zero-*ℤ, suc_ℤ-*ℤ, pred_ℤ-*ℤ, +ℤ_one, -ℤ_one}
-
--- the order of the factors is free
-pub times_comm : (a b : ℤ) → a *ℤ b ≡ b *ℤ a
-times_comm a b = *ℤ_comm a b
+use lib.IntN.{*ℤ-zero, ℤ_ind, zero-*ℤ, suc_ℤ-*ℤ, pred_ℤ-*ℤ, +ℤ_one, -ℤ_one}
 
 one_more : (a b : ℤ) → (a +ℤ pos 1) *ℤ b ≡ a *ℤ b +ℤ b
 one_more a b = ap (λ z. z *ℤ b) (+ℤ_one a) ∙ suc_ℤ-*ℤ a b
@@ -43,32 +40,18 @@ back_again b c = omega (arith, ints)
 pub times_sub : (a b c : ℤ) → a *ℤ (b -ℤ c) ≡ a *ℤ b -ℤ a *ℤ c
 times_sub a b c = difference_of_sum (a *ℤ b) (a *ℤ (b -ℤ c)) (a *ℤ c) (ap (λ z. a *ℤ z) (sym (back_again b c)) ∙ times_sum a (b -ℤ c) c)
 
--- three factors may be grouped either way
-pub times_assoc : (a b c : ℤ) → (a *ℤ b) *ℤ c ≡ a *ℤ (b *ℤ c)
-times_assoc a b c =
-    ℤ_ind (λ z. (z *ℤ b) *ℤ c ≡ z *ℤ (b *ℤ c))
-    (ap (λ y. y *ℤ c) (zero-*ℤ b) ∙ zero-*ℤ c ∙ sym (zero-*ℤ (b *ℤ c)))
-    (λ n h. ap (λ y. y *ℤ c) (one_more (pos n) b) ∙ sum_times (pos n *ℤ b) b c ∙ ap (λ y. y +ℤ b *ℤ c) h ∙ sym (one_more (pos n) (b *ℤ c)))
-    (λ n h. ap (λ y. y *ℤ c) (one_less (neg_ℤ (pos n)) b) ∙ difference_times (neg_ℤ (pos n) *ℤ b) b c ∙ ap (λ y. y -ℤ b *ℤ c) h ∙ sym (one_less (neg_ℤ (pos n)) (b *ℤ c)))
-    a
-  where
-    sum_times : (p q r : ℤ) → (p +ℤ q) *ℤ r ≡ p *ℤ r +ℤ q *ℤ r
-    sum_times p q r = *ℤ_comm (p +ℤ q) r ∙ times_sum r p q ∙ ap (λ y. y +ℤ r *ℤ q) (*ℤ_comm r p) ∙ ap (λ y. p *ℤ r +ℤ y) (*ℤ_comm r q)
-
-    difference_times : (p q r : ℤ) → (p -ℤ q) *ℤ r ≡ p *ℤ r -ℤ q *ℤ r
-    difference_times p q r = *ℤ_comm (p -ℤ q) r ∙ times_sub r p q ∙ ap (λ y. y -ℤ r *ℤ q) (*ℤ_comm r p) ∙ ap (λ y. p *ℤ r -ℤ y) (*ℤ_comm r q)
-
 product_not_negative : (a b : ℤ) → pos 0 ≤ℤ a → pos 0 ≤ℤ b → pos 0 ≤ℤ (a *ℤ b)
 product_not_negative (pos m) (pos n) h k = omega (arith, ints)
 product_not_negative (pos m) (negsuc n) h k = absurd (omega (arith, ints))
 product_not_negative (negsuc m) b h k = absurd (omega (arith, ints))
 
-product_positive : (a b : ℤ) → pos 1 ≤ℤ a → pos 1 ≤ℤ b → pos 1 ≤ℤ (a *ℤ b)
-product_positive (pos (suc m)) (pos (suc n)) h k = omega (arith, ints)
-product_positive (pos zero) b h k = absurd (omega (arith, ints))
-product_positive (pos (suc m)) (pos zero) h k = absurd (omega (arith, ints))
-product_positive (pos (suc m)) (negsuc n) h k = absurd (omega (arith, ints))
-product_positive (negsuc m) b h k = absurd (omega (arith, ints))
+-- a product of positive numbers is positive
+pub times_positive : (a b : ℤ) → pos 1 ≤ℤ a → pos 1 ≤ℤ b → pos 1 ≤ℤ (a *ℤ b)
+times_positive (pos (suc m)) (pos (suc n)) h k = omega (arith, ints)
+times_positive (pos zero) b h k = absurd (omega (arith, ints))
+times_positive (pos (suc m)) (pos zero) h k = absurd (omega (arith, ints))
+times_positive (pos (suc m)) (negsuc n) h k = absurd (omega (arith, ints))
+times_positive (negsuc m) b h k = absurd (omega (arith, ints))
 
 at_most_from_rest : (p q d : ℤ) → d ≡ q -ℤ p → pos 0 ≤ℤ d → p ≤ℤ q
 at_most_from_rest p q d e h = omega (arith, ints)
@@ -82,7 +65,7 @@ times_le a b c h k = at_most_from_rest _ _ _ (times_sub a c b) (product_not_nega
 
 -- a positive factor keeps the strict order
 pub times_lt : (a b c : ℤ) → pos 1 ≤ℤ a → b <ℤ c → (a *ℤ b) <ℤ (a *ℤ c)
-times_lt a b c h k = below_from_rest _ _ _ (times_sub a c b) (product_positive a (c -ℤ b) h (omega (arith, ints)))
+times_lt a b c h k = below_from_rest _ _ _ (times_sub a c b) (times_positive a (c -ℤ b) h (omega (arith, ints)))
 
 clash : (p q : ℤ) → p <ℤ q → q ≤ℤ p → ⊥
 clash p q h k = omega (arith, ints)
@@ -124,3 +107,21 @@ times_int_min a b c h =
     by_lt_z b c
     (λ l. ap (λ z. a *ℤ z) (min_is_first b c (at_most b c l)) ∙ sym (min_is_first _ _ (times_le a b c h (at_most b c l))))
     (λ l. ap (λ z. a *ℤ z) (min_is_second b c l) ∙ sym (min_is_second _ _ (times_le a c b h l)))
+
+-- a factor that is not negative keeps what lies beyond by a number
+pub times_beyond : (a low w high : ℤ) → pos 0 ≤ℤ a → (low +ℤ w) ≤ℤ high → (a *ℤ low +ℤ a *ℤ w) ≤ℤ (a *ℤ high)
+times_beyond a low w high h k = subst (λ z. z ≤ℤ (a *ℤ high)) (times_sum a low w) (times_le a (low +ℤ w) high h k)
+
+-- a factor that is not negative goes into the gap of two intervals
+pub times_gap_of : (a low high low' high' : ℤ) → pos 0 ≤ℤ a
+    → a *ℤ gap_of low high low' high' ≡ gap_of (a *ℤ low) (a *ℤ high) (a *ℤ low') (a *ℤ high')
+times_gap_of a low high low' high' h =
+    let inner : a *ℤ int_max (low' -ℤ high) (low -ℤ high') ≡ int_max (a *ℤ low' -ℤ a *ℤ high) (a *ℤ low -ℤ a *ℤ high') =
+    times_int_max a (low' -ℤ high) (low -ℤ high') h ∙ (λ i. int_max (times_sub a low' high i) (times_sub a low high' i)) in
+    times_int_max a (pos 0) (int_max (low' -ℤ high) (low -ℤ high')) h ∙ (λ i. int_max (*ℤ-zero a i) (inner i))
+
+-- a gap of s or more has s times the factor or more on the finer grid
+pub times_gap : (a s low high low' high' : ℤ) → pos 0 ≤ℤ a → s ≤ℤ gap_of low high low' high'
+    → (a *ℤ s) ≤ℤ gap_of (a *ℤ low) (a *ℤ high) (a *ℤ low') (a *ℤ high')
+times_gap a s low high low' high' h k =
+    subst (λ z. (a *ℤ s) ≤ℤ z) (times_gap_of a low high low' high' h) (times_le a s (gap_of low high low' high') h k)

@@ -18,6 +18,10 @@ Adjacent p q = (q ≡ p +ℤ pos 1) ⊎ (p ≡ q +ℤ pos 1)
 abbrev pub ShareSide : ℤ → ℤ → ℤ → ℤ → Type 0
 ShareSide x y u v = (Adjacent x u × (v ≡ y)) ⊎ ((u ≡ x) × Adjacent y v)
 
+-- two cells are one, or share a side
+abbrev pub AreNext : ℤ → ℤ → ℤ → ℤ → Type 0
+AreNext x y u v = ((u ≡ x) × (v ≡ y)) ⊎ ShareSide x y u v
+
 -- two covered cells are joined: a walk over covered cells that share sides leads from one to the other.
 -- A piece is a class of joined cells.
 pub data Joined (cells : ℤ → ℤ → Type 0) (x y : ℤ) : ℤ → ℤ → Type 0 where

@@ -1,2 +1,2 @@
-//! Cells of a mask, and the rules of width and space over them: definitions, and the lemmas that every layer shares.
+//! Cells of a mask, lines and rectangles of them: definitions, and the lemmas that every layer shares. It has no code.
 #![tactic(auto)]

@@ -5,47 +5,12 @@ use Rattle.std.proofs.lemmas.Bool.{eqb-true, eq-eqb}
 use Rattle.std.proofs.lemmas.List.Elements.{All-nil, All-cons, All-weaker, All-filter, All-contains, All-from_get_or, All-contains_itself, filter_passes, Contains-get_or, Contains-append_right}
 use mathlib.Core.Logic.{inl, inr}
 use Rattle.rt_cells.specs.Rectangles.{Rectangle, IsNonempty, ShareCellOrSide}
-use Rattle.rt_cells.specs.Islands.{AreSeparate}
-use Rattle.rt_cells.proofs.Islands.{Contains-map}
+use Rattle.rt_rules.specs.Islands.{AreSeparate}
+use Rattle.rt_cells.proofs.Lists.{mapped, mapped_from, filtered, filtered_from}
 use Rattle.rt_template.specs.declared.job.Strip.{Strip}
 use Rattle.rt_template.specs.Strips.{Placed, placed, no_strip, strip_at, mask_of, areas_of}
 use Rattle.rt_template.specs.Standing.{IsStrip}
 use Rattle.rt_template.specs.Separate.{AreSeparateStrips}
-
--- an element of a list is mapped to an element of the mapped list
-pub map_contains : {X Y : Type 0} (f : X → Y) (xs : List X) (x : X) → Contains xs x → Contains (map f xs) (f x)
-map_contains {X} {Y} f xs x c =
-    (c.0, omega (arith, length-map xs f, c.1), get_or-map f xs c.0 x (f x) c.1 ∙ ap f c.2)
-
--- an element of a filtered list is one of the list that passes
-pub filter_contains : {X : Type 0} (p : X → Bool) (xs : List X) (x : X) → Contains (filter p xs) x → Contains xs x × (p x ≡ true)
-filter_contains {X} p xs x c = (
-  All-contains (Contains xs) (filter p xs) x (All-filter p (Contains xs) xs (All-contains_itself xs)) c,
-  All-contains (λ y. p y ≡ true) (filter p xs) x (filter_passes p xs) c,
-)
-
-first_contained : {X : Type 0} (x : X) (xs : List X) → Contains (x ∷ xs) x
-first_contained x xs = Contains-get_or (x ∷ xs) 0 x (omega arith)
-
-kept_first : {X : Type 0} (b : Bool) (x : X) (xs : List X) → b ≡ true → Contains (cond b (x ∷ xs) xs) x
-kept_first true x xs e = first_contained x xs
-kept_first false x xs e = cc
-
-kept_later : {X : Type 0} (b : Bool) (y x : X) (xs : List X) → Contains xs x → Contains (cond b (y ∷ xs) xs) x
-kept_later true y x xs c = Contains-append_right (y ∷ []) xs x c
-kept_later false y x xs c = c
-
-all_kept : {X : Type 0} (p : X → Bool) (xs : List X) → All (λ x. p x ≡ true → Contains (filter p xs) x) xs
-all_kept {X} p [] = All-nil (λ x. p x ≡ true → Contains (filter p []) x)
-all_kept {X} p (y ∷ ys) =
-    All-cons (λ x. p x ≡ true → Contains (filter p (y ∷ ys)) x) y ys
-    (kept_first (p y) y (filter p ys))
-    (All-weaker (λ x. p x ≡ true → Contains (filter p ys) x) (λ x. p x ≡ true → Contains (filter p (y ∷ ys)) x)
-    (λ x h e. kept_later (p y) y x (filter p ys) (h e)) ys (all_kept p ys))
-
--- an element that passes is one of the filtered list
-pub contains_filter : {X : Type 0} (p : X → Bool) (xs : List X) (x : X) → Contains xs x → p x ≡ true → Contains (filter p xs) x
-contains_filter p xs x c = All-contains (λ z. p z ≡ true → Contains (filter p xs) z) xs x (all_kept p xs) c
 
 -- strip i is of mask m, and the rectangle is its area
 pub record IsAreaOf (m : ℕ) (strips : List Placed) (r : Rectangle) (i : ℕ) : Type 0 where
@@ -57,8 +22,8 @@ pub record IsAreaOf (m : ℕ) (strips : List Placed) (r : Rectangle) (i : ℕ) :
 pub area_contained : (m : ℕ) (strips : List Placed) (i : ℕ) → IsStrip strips i → mask_of strips i ≡ m
     → Contains (areas_of m strips) (strip_at strips i).area
 area_contained m strips i h e =
-    map_contains (λ (p : Placed). p.area) (filter (λ (p : Placed). eqb p.mask m) strips) (strip_at strips i)
-    (contains_filter (λ (p : Placed). eqb p.mask m) strips (strip_at strips i)
+    mapped (λ (p : Placed). p.area) (filter (λ (p : Placed). eqb p.mask m) strips) (strip_at strips i)
+    (filtered (λ (p : Placed). eqb p.mask m) strips (strip_at strips i)
     (Contains-get_or strips i no_strip h.below_count) (eq-eqb _ _ e))
 
 strip_of_element : (m : ℕ) (strips : List Placed) (p : Placed) → Contains strips p → p.mask ≡ m → (i : ℕ) × IsAreaOf m strips p.area i
@@ -69,10 +34,10 @@ strip_of_element m strips p c e =
 -- each area of a mask is that of one of its strips
 pub area_of_strip : (m : ℕ) (strips : List Placed) (r : Rectangle) → Contains (areas_of m strips) r → (i : ℕ) × IsAreaOf m strips r i
 area_of_strip m strips r c =
-    let d = Contains-map (λ (p : Placed). p.area) (filter (λ (p : Placed). eqb p.mask m) strips) r c in
-    let f = filter_contains (λ (p : Placed). eqb p.mask m) strips d.0 d.1 in
+    let d = mapped_from (λ (p : Placed). p.area) (filter (λ (p : Placed). eqb p.mask m) strips) r c in
+    let f = filtered_from (λ (p : Placed). eqb p.mask m) strips d.0 d.1 in
     let a = strip_of_element m strips d.0 f.0 (eqb-true _ _ f.1) in
-    (a.0, record { strip = a.1.strip; on_mask = a.1.on_mask; same = d.2 ∙ a.1.same })
+    (a.0, record { strip = a.1.strip; on_mask = a.1.on_mask; same = sym d.2 ∙ a.1.same })
 
 -- the areas of the strips of one mask are separate where the strips are
 pub areas_separate : (m : ℕ) (strips : List Placed) → AreSeparateStrips strips → AreSeparate (areas_of m strips)
@@ -90,7 +55,3 @@ areas_separate m strips separate = record {
         | inr apart ↦ inr apart
       ]));
 }
-
--- a strip in the code is that of its number in the drawing
-pub placed_at : (strips : List Strip) (i : ℕ) (d : Strip) → i < length strips → strip_at (map placed strips) i ≡ placed (get_or strips i d)
-placed_at strips i d h = get_or-map placed strips i d no_strip h

@@ -9,14 +9,14 @@ use Rattle.std.specs.List.{AllWithin}
 use mathlib.Core.Logic.{inl, inr}
 use Rattle.rt_cells.specs.Line.{gap_of}
 use Rattle.rt_cells.specs.Cells.{transposed}
-use Rattle.rt_cells.specs.Width.{KeepsWidth, WidthBreach}
-use Rattle.rt_cells.specs.Space.{SpaceBreach}
+use Rattle.rt_rules.specs.Width.{KeepsWidth, WidthBreach}
+use Rattle.rt_rules.specs.Space.{SpaceBreach}
 use Rattle.rt_cells.specs.Rectangles.{Rectangle, Covers}
-use Rattle.rt_cells.specs.Islands.{AreIslands}
-use Rattle.rt_cells.proofs.Breaches.{width_breach_breaks, space_breach_breaks}
-use Rattle.rt_cells.proofs.Families.{family_keeps_width}
-use Rattle.rt_cells.proofs.Separate.{family_of_rows, family_of_columns, narrow_is_breach, low_is_breach, near_is_breach, apart_is_other}
-use Rattle.rt_cells.proofs.Islands.{islands_keep_width, islands_keep_space}
+use Rattle.rt_rules.specs.Islands.{AreIslands}
+use Rattle.rt_rules.proofs.Breaches.{width_breach_breaks, space_breach_breaks}
+use Rattle.rt_rules.proofs.Families.{family_keeps_width}
+use Rattle.rt_rules.proofs.Separate.{family_of_rows, family_of_columns, narrow_is_breach, low_is_breach, near_is_breach, apart_is_other}
+use Rattle.rt_rules.proofs.Islands.{islands_keep_width, islands_keep_space}
 use Rattle.rt_base.specs.Plane.{area}
 use Rattle.rt_tech.specs.declared.table.Mask.{Mask}
 use Rattle.rt_tech.specs.declared.table.Tech.{Tech}
@@ -31,7 +31,8 @@ use Rattle.rt_template.specs.Rules.{KeepsMaskRules}
 use Rattle.rt_drc.specs.declared.search.Witness.{Witness}
 use Rattle.rt_drc.specs.Found.{IsShownAt, IsWide, IsNarrow, IsLow, IsApart, IsNear, IsWideOn, IsShortOn, IsApartOn, IsNearOn, AreWideOn, IsApartUpTo, AreApartOn, ShowsWidth, ShowsSpace}
 use Rattle.rt_drc.specs.Breach.{FirstBreachBreaks}
-use Rattle.rt_drc.proofs.Areas.{area_contained, area_of_strip, areas_separate, placed_at}
+use Rattle.rt_drc.proofs.Areas.{area_contained, area_of_strip, areas_separate}
+use Rattle.rt_template.proofs.Strips.{strip_there, strip_below, placed_at, strip_is}
 
 -- what holds of the cells and the number that a witness has holds of the witness
 shown : (B : ℤ → ℤ → ℤ → ℤ → ℤ → Type 0) (x y u v number : ℤ) (witness : Witness) → IsShownAt x y u v number witness → B x y u v number
@@ -53,21 +54,11 @@ short_shows m w drawing separate i h e witness (inr low) =
     shown (WidthBreach w (covered_by m drawing)) _ _ _ _ _ witness low.shown
     (low_is_breach (areas_of m drawing) (areas_separate m drawing separate) w (strip_at drawing i).area (area_contained m drawing i h e) low.short)
 
-strip_there : (strips : List Strip) (i : ℕ) → i < length strips → IsStrip (map placed strips) i
-strip_there strips i h = record { below_count = omega (arith, length-map strips placed, h) }
-
-there_in_code : (strips : List Strip) (i : ℕ) → IsStrip (map placed strips) i → i < length strips
-there_in_code strips i h = omega (arith, length-map strips placed, h.below_count)
-
--- strip i of the drawing is the strip that the code reads there
-read_at : (strips : List Strip) (i : ℕ) (a : Strip) → i < length strips → a ≡ get_or strips i a → strip_at (map placed strips) i ≡ placed a
-read_at strips i a h is = placed_at strips i a h ∙ ap placed (sym is)
-
 -- the same at a strip of the code
 pub short_strip_shows : (m : ℕ) (w : ℤ) (strips : List Strip) (i : ℕ) (a : Strip) (witness : Witness) → AreSeparateStrips (map placed strips) → i < length strips
     → a ≡ get_or strips i a → IsShortOn m w a witness → ShowsWidth m w (map placed strips) witness
 short_strip_shows m w strips i a witness separate h is short =
-    let e = read_at strips i a h is in
+    let e = strip_is strips i a h is in
     short_shows m w (map placed strips) separate i (strip_there strips i h) (ap (λ (p : Placed). p.mask) e ∙ short.on_mask) witness
     (subst (λ (p : Placed). IsNarrow w p.area witness ⊎ IsLow w p.area witness) (sym e) short.short)
 
@@ -82,7 +73,7 @@ pub wide_strips : (m : ℕ) (w : ℤ) (strips : List Strip) → AllWithin (IsWid
 wide_strips m w [] all = record { wide = λ i h e. absurd (omega (arith, h.below_count)) }
 wide_strips m w (d ∷ strips) all = record {
   wide = λ i h e.
-      let k = there_in_code (d ∷ strips) i h in
+      let k = strip_below (d ∷ strips) i h in
       wide_at m w (d ∷ strips) i d k (all i d (omega arith) k) e;
 }
 
@@ -105,8 +96,8 @@ near_shows m s drawing separate i j before h e f witness near =
 pub near_strips_show : (m : ℕ) (s : ℤ) (strips : List Strip) (i j : ℕ) (a b : Strip) (witness : Witness) → AreSeparateStrips (map placed strips) → i < j → j < length strips
     → a ≡ get_or strips i a → b ≡ get_or strips j b → IsNearOn m s a b witness → ShowsSpace m s (map placed strips) witness
 near_strips_show m s strips i j a b witness separate before h is_first is_second near =
-    let e = read_at strips i a (omega (arith, before, h)) is_first in
-    let f = read_at strips j b h is_second in
+    let e = strip_is strips i a (omega (arith, before, h)) is_first in
+    let f = strip_is strips j b h is_second in
     near_shows m s (map placed strips) separate i j before (strip_there strips j h)
     (ap (λ (p : Placed). p.mask) e ∙ near.first_on_mask) (ap (λ (p : Placed). p.mask) f ∙ near.second_on_mask) witness
     (subst (λ (p : Placed). IsNear s p.area (strip_at (map placed strips) j).area witness) (sym e)
@@ -117,8 +108,8 @@ apart_at : (m : ℕ) (s : ℤ) (strips : List Strip) (i j : ℕ) (a b : Strip) �
     → a ≡ get_or strips i a → b ≡ get_or strips j b → IsApartOn m s a b → mask_of (map placed strips) i ≡ m → mask_of (map placed strips) j ≡ m
     → IsApart s (strip_at (map placed strips) i).area (strip_at (map placed strips) j).area
 apart_at m s strips i j a b h k is_first is_second apart on_first on_second =
-    let e = read_at strips i a h is_first in
-    let f = read_at strips j b k is_second in
+    let e = strip_is strips i a h is_first in
+    let f = strip_is strips j b k is_second in
     subst (λ (p : Placed). IsApart s p.area (strip_at (map placed strips) j).area) (sym e)
     (subst (λ (p : Placed). IsApart s (area a.at) p.area) (sym f)
     (apart.apart (sym (ap (λ (p : Placed). p.mask) e) ∙ on_first) (sym (ap (λ (p : Placed). p.mask) f) ∙ on_second)))

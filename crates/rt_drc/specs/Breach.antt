@@ -1,7 +1,7 @@
 -- The answers of the check.
 use Rattle.std.specs.Prelude.{◌≡◌, ℕ, ℤ, List}
-use Rattle.rt_cells.specs.Width.{KeepsWidth, WidthBreach}
-use Rattle.rt_cells.specs.Space.{SpaceBreach}
+use Rattle.rt_rules.specs.Width.{KeepsWidth, WidthBreach}
+use Rattle.rt_rules.specs.Space.{SpaceBreach}
 use Rattle.rt_base.specs.declared.plane.Cell.{Cell}
 use Rattle.rt_tech.specs.declared.table.Tech.{Tech}
 use Rattle.rt_tech.specs.declared.rules.RuleName.{RuleName}

@@ -2,10 +2,9 @@
 use Rattle.std.specs.Prelude.{◌≡◌, ℕ, ◌<◌, ℤ, pos, ◌+ℤ◌, ◌-ℤ◌, ◌≤ℤ◌, ◌<ℤ◌, ◌⊎◌, List, length}
 use Rattle.std.specs.Int.{int_max}
 use Rattle.rt_cells.specs.Line.{nearest_place}
-use Rattle.rt_cells.specs.Rectangles.{Rectangle}
-use Rattle.rt_cells.specs.Islands.{columns_between, rows_between}
-use Rattle.rt_cells.specs.Width.{WidthBreach}
-use Rattle.rt_cells.specs.Space.{SpaceBreach}
+use Rattle.rt_cells.specs.Rectangles.{Rectangle, columns_between, rows_between}
+use Rattle.rt_rules.specs.Width.{WidthBreach}
+use Rattle.rt_rules.specs.Space.{SpaceBreach}
 use Rattle.rt_base.specs.Plane.{area}
 use Rattle.rt_template.specs.declared.job.Strip.{Strip}
 use Rattle.rt_template.specs.Strips.{Placed, strip_at, mask_of}

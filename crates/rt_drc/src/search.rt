@@ -1,7 +1,7 @@
 ghost use Rattle.std.specs.Prelude.{◌≡◌, ◌<◌, ◌<ℤ◌, length, map, MatchOption};
 ghost use Rattle.std.specs.Int.{int_max};
 ghost use Rattle.rt_cells.specs.Line.{nearest_place};
-ghost use Rattle.rt_cells.specs.Islands.{columns_between, rows_between};
+ghost use Rattle.rt_cells.specs.Rectangles.{columns_between, rows_between};
 ghost use Rattle.rt_base.specs.Plane.{area};
 ghost use Rattle.rt_template.specs.Strips.{placed};
 ghost use Rattle.rt_template.specs.Separate.{AreSeparateStrips};

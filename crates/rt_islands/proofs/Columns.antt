@@ -2,7 +2,8 @@
 use Rattle.std.proofs.Common.{◌≡◌, ℕ, ◌<◌, ℤ, pos, ◌+ℤ◌, ◌≤ℤ◌, ◌<ℤ◌, List, length, sym, ap, subst, ◌∙◌, arith}
 use Rattle.std.proofs.lemmas.Int.{ints}
 use Rattle.std.proofs.lemmas.List.Elements.{All-get_or}
-use Rattle.rt_base.specs.Plane.{IsCoordinate}
+use Rattle.rt_rows.specs.declared.positions.TheConstants.{EXTENT_LIMIT}
+use Rattle.rt_base.specs.Plane.{IsSide}
 use Rattle.rt_path.specs.Least.{value_at}
 use Rattle.rt_rows.specs.declared.positions.Positions.{Positions}
 use Rattle.rt_rows.specs.declared.row.Var.TheVariants.{L, R}
@@ -21,24 +22,24 @@ use Rattle.rt_islands.specs.Views.{AreColumns, IsLineAcross, IsLineUpwards}
 use Rattle.rt_islands.specs.Placing.{PlacesEach, ArePlacesOf}
 use Rattle.rt_islands.proofs.Across.{least_across}
 use Rattle.rt_islands.proofs.Upwards.{least_upwards}
-use Rattle.rt_islands.proofs.Seen.{strip_below}
+use Rattle.rt_template.proofs.Strips.{strip_below}
 
-start_in_reach : (start size extent : ℤ) → pos 0 ≤ℤ start → pos 1 ≤ℤ size → (start +ℤ size) ≤ℤ extent → extent ≤ℤ pos 20000000 → IsCoordinate start
+start_in_reach : (start size extent : ℤ) → pos 0 ≤ℤ start → pos 1 ≤ℤ size → (start +ℤ size) ≤ℤ extent → extent ≤ℤ EXTENT_LIMIT → IsSide start
 start_in_reach start size extent a b c d = record { low = omega (arith, ints); high = omega (arith, ints) }
 
-end_in_reach : (start size extent end : ℤ) → pos 0 ≤ℤ start → pos 1 ≤ℤ size → (start +ℤ size) ≤ℤ extent → extent ≤ℤ pos 20000000 → end ≡ start +ℤ size
-    → IsCoordinate end
+end_in_reach : (start size extent end : ℤ) → pos 0 ≤ℤ start → pos 1 ≤ℤ size → (start +ℤ size) ≤ℤ extent → extent ≤ℤ EXTENT_LIMIT → end ≡ start +ℤ size
+    → IsSide end
 end_in_reach start size extent end a b c d e = record { low = omega (arith, ints); high = omega (arith, ints) }
 
 end_after : (start size end : ℤ) → pos 1 ≤ℤ size → end ≡ start +ℤ size → start <ℤ end
 end_after start size end h e = omega (arith, ints)
 
 module _ (items : List Item) (line : Line) (least : IsLeastLine items line) (sound : (i : ℕ) → i < length items → IsItem (item_at items i)) where
-  start_is : (i : ℕ) → i < length items → IsCoordinate (value_at line.starts.items i)
+  start_is : (i : ℕ) → i < length items → IsSide (value_at line.starts.items i)
   start_is i lt =
       start_in_reach _ (item_at items i).size _ (least.least.arranged.from_zero i lt) (sound i lt).wanted.low (least.least.arranged.ends i lt) least.least.within
 
-  end_is : (i : ℕ) → i < length items → IsCoordinate (value_at line.ends.items i)
+  end_is : (i : ℕ) → i < length items → IsSide (value_at line.ends.items i)
   end_is i lt =
       end_in_reach (value_at line.starts.items i) (item_at items i).size _ _ (least.least.arranged.from_zero i lt) (sound i lt).wanted.low
       (least.least.arranged.ends i lt) least.least.within (least.ends.each i lt)
@@ -70,7 +71,7 @@ module _ (job : Job) (apart : AreSeparateStrips (strips_of job)) (source : IsMea
   wide : (i : ℕ) → IsStrip (strips_of job) i → places at (L i) <ℤ places at (R i)
   wide i s =
       subst (λ z. z <ℤ places at (R i)) (sym (at_left i))
-      (subst (λ z. value_at across.starts.items i <ℤ z) (sym (at_right i)) ((columns_of job across first).nonempty i (strip_below job i s)))
+      (subst (λ z. value_at across.starts.items i <ℤ z) (sym (at_right i)) ((columns_of job across first).nonempty i (strip_below job.strips i s)))
 
   pub places_each : PlacesEach job at
   places_each = record {

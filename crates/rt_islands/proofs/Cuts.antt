@@ -5,6 +5,7 @@ use Rattle.std.proofs.lemmas.List.{get_or-take, get_or_append_left, length-appen
 use Rattle.std.proofs.Math.Seq.{get_or-append_seam}
 use lib.Signed.{lt_z}
 use mathlib.Core.Logic.{inl, inr}
+use Rattle.rt_rows.specs.declared.positions.TheConstants.{EXTENT_LIMIT}
 use Rattle.rt_path.specs.Least.{value_at}
 use Rattle.rt_islands.specs.declared.item.Item.{Item}
 use Rattle.rt_islands.specs.declared.line.Line.{Line}
@@ -54,7 +55,7 @@ least_same items at at' extent extent' e f h = record {
   };
   least = λ other size arranged i lt. subst (λ z. z ≤ℤ other i) (sym (e i lt)) (h.least other size arranged i lt);
   least_extent = λ other size arranged. subst (λ z. z ≤ℤ size) (sym f) (h.least_extent other size arranged);
-  within = subst (λ z. z ≤ℤ pos 20000000) (sym f) h.within;
+  within = subst (λ z. z ≤ℤ EXTENT_LIMIT) (sym f) h.within;
 }
 
 -- the line that the values give

@@ -2,7 +2,6 @@ pub mod Exactly
 pub mod Sums
 pub mod Lines
 pub mod Cuts
-pub mod Rows
 pub mod Seen
 pub mod Across
 pub mod Upwards

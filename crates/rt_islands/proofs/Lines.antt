@@ -6,6 +6,7 @@ use mathlib.Core.Logic.{inl, inr}
 use Rattle.rt_path.specs.declared.difference.Difference.{Difference}
 use Rattle.rt_path.specs.Least.{MeetsDifference, Solves, value_at, IsInReach, IsLeastSolution, SomeIsBeyond}
 use Rattle.std.proofs.lemmas.List.Elements.{All-get_or, All-contains_itself, All-weaker}
+use Rattle.rt_rows.specs.declared.positions.TheConstants.{EXTENT_LIMIT}
 use Rattle.rt_islands.specs.declared.item.Item.{Item}
 use Rattle.rt_islands.specs.Items.{no_item, item_at, IsItem, reach, side_by_side}
 use Rattle.rt_islands.specs.Lines.{IsArranged, AreLeastValues, IsRowOf, AreRowsOf}
@@ -71,7 +72,7 @@ module _ (items : List Item) (rows : List Difference) (exactly : AreRowsOf items
   }
 
   -- the least solution gives the least positions
-  pub least_values_are : (values : List ℤ) → IsLeastSolution (pos 20000000) (length items + 1) rows values → AreLeastValues items values
+  pub least_values_are : (values : List ℤ) → IsLeastSolution EXTENT_LIMIT (length items + 1) rows values → AreLeastValues items values
   least_values_are values h = record {
     one_each = h.one_each;
     least = record {
@@ -96,13 +97,13 @@ module _ (items : List Item) (rows : List Difference) (exactly : AreRowsOf items
       reached p q e = omega (arith, ints)
 
   -- the rows have a solution within the limit
-  pub none_is_beyond : All IsItem items → side_by_side items ≤ℤ pos 20000000 → SomeIsBeyond (pos 20000000) (length items + 1) rows → ⊥
+  pub none_is_beyond : All IsItem items → side_by_side items ≤ℤ EXTENT_LIMIT → SomeIsBeyond EXTENT_LIMIT (length items + 1) rows → ⊥
   none_is_beyond h few beyond =
       between _ _ (beyond.2 (chosen (length items) (begin_of items) (side_by_side items))
       (arranged_solves (begin_of items) (side_by_side items) (begins_arranged items h)))
       (chosen_most beyond.0 h (below_or_there beyond.0 (length items) beyond.1)) few
     where
-      between : (z t : ℤ) → pos 20000000 <ℤ z → z ≤ℤ t → t ≤ℤ pos 20000000 → ⊥
+      between : (z t : ℤ) → EXTENT_LIMIT <ℤ z → z ≤ℤ t → t ≤ℤ EXTENT_LIMIT → ⊥
       between z t p q r = omega (arith, ints)
 
   -- the rows are within what least values can be found for

@@ -5,7 +5,8 @@ use Rattle.std.proofs.lemmas.List.{get_or_append_left, length-append, length-map
 use Rattle.std.proofs.lemmas.List.Elements.{All-push}
 use Rattle.std.proofs.Math.Seq.{get_or-append_seam}
 use mathlib.Core.Logic.{inl, inr}
-use Rattle.rt_base.specs.Plane.{IsCoordinate}
+use Rattle.rt_rows.specs.declared.positions.TheConstants.{EXTENT_LIMIT}
+use Rattle.rt_base.specs.Plane.{IsSide}
 use Rattle.rt_path.specs.Least.{value_at}
 use Rattle.rt_tech.specs.declared.table.Tech.{Tech}
 use Rattle.rt_tech.specs.Tech.{width_of, space_of}
@@ -19,6 +20,7 @@ use Rattle.rt_islands.specs.declared.item.Item.{Item}
 use Rattle.rt_islands.specs.declared.line.Line.{Line}
 use Rattle.rt_islands.specs.Items.{no_item, item_at, IsItem, side_by_side}
 use Rattle.rt_islands.specs.Views.{IsWanted, IsSeenAcross, IsSeenUpwards, AreFirst}
+use Rattle.rt_template.proofs.Strips.{strip_below, strip_is}
 use Rattle.rt_islands.proofs.Exactly.{below_or_there}
 
 -- numbers that are read and written again are the same
@@ -60,9 +62,6 @@ as_read P mask low high begin end near size space a b c d e f g h =
     } in
     subst P path h
 
-strip_is : (strips : List Strip) (i : ℕ) (s : Strip) → i < length strips → s ≡ get_or strips i s → strip_at (map placed strips) i ≡ placed s
-strip_is strips i s lt e = get_or-map placed strips i s no_strip lt ∙ ap placed (sym e)
-
 pub wanted_is : (job : Job) (i : ℕ) (s : Strip) (item : Item) → i < length job.strips → s ≡ get_or job.strips i s
     → item.mask ≡ s.mask → item.size ≡ width_of job.target s.mask → item.space ≡ space_of job.target s.mask → IsWanted job i item
 wanted_is job i s item lt e m w p =
@@ -97,11 +96,11 @@ seen_upwards job columns i s item lt e wanted l h b t n =
       near = n ∙ ap (λ (q : Placed). space_of job.target q.mask) f;
     }
 
-pub from_coordinate : (low high : ℤ) → negsuc (2 ^ 61 - 1) ≤ℤ low → low <ℤ high → high ≤ℤ pos (2 ^ 61) → IsCoordinate low
-from_coordinate low high a b c = record { low = a; high = omega (arith, ints) }
+pub from_side : (low high : ℤ) → negsuc (2 ^ 62 - 2) ≤ℤ low → low <ℤ high → high ≤ℤ pos (2 ^ 62 - 1) → IsSide low
+from_side low high a b c = record { low = a; high = omega (arith, ints) }
 
-pub to_coordinate : (low high : ℤ) → negsuc (2 ^ 61 - 1) ≤ℤ low → low <ℤ high → high ≤ℤ pos (2 ^ 61) → IsCoordinate high
-to_coordinate low high a b c = record { low = omega (arith, ints); high = c }
+pub to_side : (low high : ℤ) → negsuc (2 ^ 62 - 2) ≤ℤ low → low <ℤ high → high ≤ℤ pos (2 ^ 62 - 1) → IsSide high
+to_side low high a b c = record { low = omega (arith, ints); high = c }
 
 -- a value that was read from a list
 pub as_value : (xs : List ℤ) (i : ℕ) (x : ℤ) → i < length xs → x ≡ get_or xs i x → x ≡ value_at xs i
@@ -121,13 +120,6 @@ one_more seen count items item h s k = record {
   ];
   sound = All-push IsItem items item h.sound k;
 }
-
--- a strip's number is one of the job's strips
-pub is_strip : (job : Job) (i : ℕ) → i < length job.strips → IsStrip (strips_of job) i
-is_strip job i h = record { below_count = subst (λ n. i < n) (sym (length-map job.strips placed)) h }
-
-pub strip_below : (job : Job) (i : ℕ) → IsStrip (strips_of job) i → i < length job.strips
-strip_below job i h = subst (λ n. i < n) (length-map job.strips placed) h.below_count
 
 same_sums : (tech : Tech) (items : List Item) (strips : List Placed) → length items ≡ length strips
     → ((i : ℕ) → i < length strips → ((item_at items i).size ≡ width_of tech (mask_of strips i)) × ((item_at items i).space ≡ space_of tech (mask_of strips i)))
@@ -157,9 +149,9 @@ same_sums tech (item ∷ items) (strip ∷ strips) e h =
 
 pub fits_side_by_side : (job : Job) (seen : ℕ → Item → Type 0) (items : List Item) → AreFirst seen (length job.strips) items
     → ((i : ℕ) (item : Item) → seen i item → IsWanted job i item)
-    → extent_side_by_side job.target (strips_of job) ≤ℤ pos 20000000 → side_by_side items ≤ℤ pos 20000000
+    → extent_side_by_side job.target (strips_of job) ≤ℤ EXTENT_LIMIT → side_by_side items ≤ℤ EXTENT_LIMIT
 fits_side_by_side job seen items h wanted few =
-    subst (λ z. z ≤ℤ pos 20000000)
+    subst (λ z. z ≤ℤ EXTENT_LIMIT)
     (sym (same_sums job.target items (strips_of job) (h.one_each ∙ sym (length-map job.strips placed))
-    (λ i lt. let w = wanted i (item_at items i) (h.each i (strip_below job i (record { below_count = lt }))) in (w.size, w.space))))
+    (λ i lt. let w = wanted i (item_at items i) (h.each i (strip_below job.strips i (record { below_count = lt }))) in (w.size, w.space))))
     few

@@ -2,6 +2,7 @@
 use Rattle.std.proofs.Common.{◌≡◌, ℕ, zero, suc, ◌*◌, ◌<◌, ◌≤◌, ℤ, pos, ◌+ℤ◌, ◌≤ℤ◌, ◌<ℤ◌, ◌⊎◌, List, [], ◌∷◌, length, map, refl, sym, arith}
 use Rattle.std.proofs.lemmas.Int.{ints, clamps}
 use mathlib.Core.Logic.{inl, inr}
+use Rattle.rt_rows.specs.declared.positions.TheConstants.{EXTENT_LIMIT}
 use Rattle.rt_cells.specs.Line.{Within, gap_of}
 use Rattle.rt_cells.specs.Cells.{Adjacent, ShareSide}
 use Rattle.rt_cells.specs.Rectangles.{Rectangle, IsNonempty, ShareCellOrSide}
@@ -22,11 +23,11 @@ fits_by_count tech valid [] = omega (arith, ints)
 fits_by_count tech valid (strip ∷ strips) =
     more_fits _ _ _ (length strips) (width_is_length tech valid strip.mask) (space_is_length tech valid strip.mask) (fits_by_count tech valid strips)
 
-few_fit : (z : ℤ) (n : ℕ) → z ≤ℤ pos (2000000 * n) → n ≤ 10 → z ≤ℤ pos 20000000
+few_fit : (z : ℤ) (n : ℕ) → z ≤ℤ pos (2000000 * n) → n ≤ 10 → z ≤ℤ EXTENT_LIMIT
 few_fit z n h k = omega (arith, ints)
 
 -- ten strips or fewer fit side by side
-pub ten_fit : (tech : Tech) → IsMeasured tech → (strips : List Placed) → length strips ≤ 10 → extent_side_by_side tech strips ≤ℤ pos 20000000
+pub ten_fit : (tech : Tech) → IsMeasured tech → (strips : List Placed) → length strips ≤ 10 → extent_side_by_side tech strips ≤ℤ EXTENT_LIMIT
 ten_fit tech valid strips few = few_fit _ (length strips) (fits_by_count tech valid strips) few
 
 far_places : (a b c d z t : ℤ) → pos 0 <ℤ gap_of a b c d → Within a b z → Within c d t → (t ≡ z) ⊎ Adjacent z t → ⊥

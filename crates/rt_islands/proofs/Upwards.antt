@@ -21,10 +21,10 @@ use Rattle.rt_islands.specs.declared.line.Line.{Line}
 use Rattle.rt_islands.specs.Items.{item_at, IsHeldOff}
 use Rattle.rt_islands.specs.Lines.{IsArranged, IsLeastLine}
 use Rattle.rt_islands.specs.Views.{IsSeenUpwards, AreSeenUpwards}
-use Rattle.rt_islands.proofs.Rows.{at_least_meets, at_least_met, at_most_meets, beyond_meets, beyond_met}
+use Rattle.rt_rows.proofs.Rows.{at_least_meets, at_least_met, at_most_meets, beyond_meets, beyond_met}
 use Rattle.rt_tech.proofs.Lengths.{width_is_length}
 use Rattle.rt_template.proofs.Separate.{none_stands, none_touches, none_climbed, chain_of_one}
-use Rattle.rt_islands.proofs.Seen.{is_strip, strip_below}
+use Rattle.rt_template.proofs.Strips.{strip_there, strip_below}
 use Rattle.rt_islands.proofs.Across.{near_as, at_most_as, end_within, reach_within, end_reached, end_beyond, gap_kept, end_least, from_equal, to_equal}
 
 one_high : (b t w : ℤ) → pos 1 ≤ℤ w → (b +ℤ w) ≤ℤ t → (b +ℤ pos 1) ≤ℤ t
@@ -46,10 +46,10 @@ module _ (job : Job) (apart : AreSeparateStrips (strips_of job)) (target : IsMea
   see i h = seen.each i (below i h)
 
   strip : (i : ℕ) → i < length items → IsStrip (strips_of job) i
-  strip i h = is_strip job i (below i h)
+  strip i h = strip_there job.strips i (below i h)
 
   item : (i : ℕ) → IsStrip (strips_of job) i → i < length items
-  item i h = subst (λ n. i < n) (sym seen.one_each) (strip_below job i h)
+  item i h = subst (λ n. i < n) (sym seen.one_each) (strip_below job.strips i h)
 
   kept_of_held : (i j : ℕ) → IsHeldOff items i j → IsKeptAbove job at i j
   kept_of_held i j h =

@@ -3,6 +3,7 @@ use Rattle.std.proofs.Common.{◌≡◌, ℕ, ◌+◌, ◌<◌, ℤ, pos, ◌+�
 use Rattle.std.proofs.lemmas.Int.{ints}
 use Rattle.std.proofs.lemmas.List.{get_or_default}
 use Rattle.std.proofs.lemmas.List.Elements.{All-get_or}
+use Rattle.rt_rows.specs.declared.positions.TheConstants.{EXTENT_LIMIT}
 use Rattle.rt_path.specs.Least.{value_at}
 use Rattle.rt_tech.specs.Tech.{IsLength}
 use Rattle.rt_islands.specs.declared.item.Item.{Item}
@@ -15,7 +16,7 @@ length_written z h = omega (arith, ints)
 lengths_written : (a b : ℤ) → IsLength a → IsLength b → to_z w64 (of_z w64 (to_z w64 (of_z w64 a) +ℤ to_z w64 (of_z w64 b))) ≡ a +ℤ b
 lengths_written a b h k = omega (arith, ints)
 
-sum_written : (a b extent : ℤ) → pos 0 ≤ℤ a → IsLength b → (a +ℤ b) ≤ℤ extent → extent ≤ℤ pos 20000000
+sum_written : (a b extent : ℤ) → pos 0 ≤ℤ a → IsLength b → (a +ℤ b) ≤ℤ extent → extent ≤ℤ EXTENT_LIMIT
     → to_z w64 (of_z w64 (to_z w64 (of_z w64 a) +ℤ to_z w64 (of_z w64 b))) ≡ a +ℤ b
 sum_written a b extent h k l m = omega (arith, ints)
 

@@ -1,7 +1,7 @@
 -- Strips as one axis sees them, and which of them are to keep their distance.
 use Rattle.std.specs.Prelude.{◌≡◌, ℕ, ◌<◌, ℤ, pos, ◌+ℤ◌, ◌≤ℤ◌, ◌<ℤ◌, List, [], ◌∷◌, length, slice_index_or}
 use Rattle.rt_cells.specs.Line.{gap_of}
-use Rattle.rt_base.specs.Plane.{IsCoordinate}
+use Rattle.rt_base.specs.Plane.{IsSide}
 use Rattle.rt_tech.specs.Tech.{IsLength}
 use Rattle.rt_islands.specs.declared.item.Item.{Item}
 
@@ -17,8 +17,8 @@ item_at items i = slice_index_or items i no_item
 pub record IsItem (item : Item) : Type 0 where
   pub along : item.low <ℤ item.high
   pub beside : item.from <ℤ item.to
-  pub begin : IsCoordinate item.from
-  pub end : IsCoordinate item.to
+  pub begin : IsSide item.from
+  pub end : IsSide item.to
   pub wanted : IsLength item.size
   pub apart : IsLength item.space
 

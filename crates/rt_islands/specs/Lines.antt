@@ -1,5 +1,6 @@
 -- The positions of items along an axis, the least ones, and the difference rows that say the same.
 use Rattle.std.specs.Prelude.{◌≡◌, ℕ, ◌+◌, ◌<◌, ℤ, pos, ◌+ℤ◌, ◌≤ℤ◌, ◌⊎◌, List, length, Contains}
+use Rattle.rt_rows.specs.declared.positions.TheConstants.{EXTENT_LIMIT}
 use Rattle.rt_path.specs.declared.difference.Difference.{Difference}
 use Rattle.rt_path.specs.Least.{value_at}
 use Rattle.rt_islands.specs.declared.item.Item.{Item}
@@ -18,7 +19,7 @@ pub record IsLeastArranged (items : List Item) (at : ℕ → ℤ) (extent : ℤ)
   pub arranged : IsArranged items at extent
   pub least : (other : ℕ → ℤ) (size : ℤ) → IsArranged items other size → (i : ℕ) → i < length items → at i ≤ℤ other i
   pub least_extent : (other : ℕ → ℤ) (size : ℤ) → IsArranged items other size → extent ≤ℤ size
-  pub within : extent ≤ℤ pos 20000000
+  pub within : extent ≤ℤ EXTENT_LIMIT
 
 -- the values are the least beginnings, one an item, and then the least extent
 pub record AreLeastValues (items : List Item) (values : List ℤ) : Type 0 where

@@ -1,7 +1,7 @@
 -- What the items of each axis are.
 use Rattle.std.specs.Prelude.{◌≡◌, ℕ, ◌<◌, ◌<ℤ◌, List, length, All}
 use Rattle.rt_path.specs.Least.{value_at}
-use Rattle.rt_base.specs.Plane.{IsCoordinate}
+use Rattle.rt_base.specs.Plane.{IsSide}
 use Rattle.rt_tech.specs.Tech.{space_of}
 use Rattle.rt_template.specs.declared.job.Job.{Job}
 use Rattle.rt_template.specs.Strips.{mask_of, left_of, right_of, bottom_of, top_of}
@@ -53,8 +53,8 @@ AreSeenUpwards job columns items = AreFirst (IsSeenUpwards job columns) (length 
 pub record AreColumns (job : Job) (columns : Line) : Type 0 where
   pub one_start_each : length columns.starts.items ≡ length job.strips
   pub one_end_each : length columns.ends.items ≡ length job.strips
-  pub starts : (i : ℕ) → i < length job.strips → IsCoordinate (value_at columns.starts.items i)
-  pub ends : (i : ℕ) → i < length job.strips → IsCoordinate (value_at columns.ends.items i)
+  pub starts : (i : ℕ) → i < length job.strips → IsSide (value_at columns.starts.items i)
+  pub ends : (i : ℕ) → i < length job.strips → IsSide (value_at columns.ends.items i)
   pub nonempty : (i : ℕ) → i < length job.strips → value_at columns.starts.items i <ℤ value_at columns.ends.items i
 
 -- the line is the least one across

@@ -1,4 +1,5 @@
 ghost use Rattle.std.specs.Prelude.{◌≡◌, ◌≤◌, pos, ◌≤ℤ◌, length, IfOk};
+ghost use Rattle.rt_rows.specs.declared.positions.TheConstants.{EXTENT_LIMIT};
 ghost use Rattle.rt_rows.specs.Places.{places};
 ghost use Rattle.rt_tech.specs.Tech.{IsMeasured};
 ghost use Rattle.rt_template.specs.Across.{strips_of, IsLeastAcross};
@@ -23,7 +24,7 @@ pub fn place(alloc: Global, job: &Job) -> Result<Positions, OutOfMemory>
     requires separate { AreSeparateStrips (strips_of job.now) }
     requires source { IsMeasured job.now.source }
     requires target { IsMeasured job.now.target }
-    requires side_by_side { extent_side_by_side job.now.target (strips_of job.now) ≤ℤ pos 20000000 }
+    requires side_by_side { extent_side_by_side job.now.target (strips_of job.now) ≤ℤ EXTENT_LIMIT }
     ensures { IfOk result (λ at. PlacesEach job.now at × IsLeastAcross job.now (places at) × IsLeastUpwards job.now (places at) (places at)) }
 {
     let across = line_across(alloc, job)?;
@@ -35,7 +36,7 @@ pub fn place(alloc: Global, job: &Job) -> Result<Positions, OutOfMemory>
 fn line_across(alloc: Global, job: &Job) -> Result<Line, OutOfMemory>
     requires few { length job.now.strips ≤ 65536 }
     requires target { IsMeasured job.now.target }
-    requires side_by_side { extent_side_by_side job.now.target (strips_of job.now) ≤ℤ pos 20000000 }
+    requires side_by_side { extent_side_by_side job.now.target (strips_of job.now) ≤ℤ EXTENT_LIMIT }
     ensures { IfOk result (λ line. IsLineAcross job.now line) }
 {
     let items = items_across(alloc, job)?;
@@ -47,7 +48,7 @@ fn line_upwards(alloc: Global, job: &Job, columns: &Line) -> Result<Line, OutOfM
     requires few { length job.now.strips ≤ 65536 }
     requires target { IsMeasured job.now.target }
     requires columns { IsLineAcross job.now columns.now }
-    requires side_by_side { extent_side_by_side job.now.target (strips_of job.now) ≤ℤ pos 20000000 }
+    requires side_by_side { extent_side_by_side job.now.target (strips_of job.now) ≤ℤ EXTENT_LIMIT }
     ensures { IfOk result (λ line. IsLineUpwards job.now columns.now line) }
 {
     let items = items_upwards(alloc, job, columns)?;

@@ -5,10 +5,8 @@ ghost use Rattle.rt_islands.specs.Lines.{IsLeastLine, AreRowsOf, AreRowsBefore, 
 use crate::item::{Item, holds_off};
 use rt_base::OutOfMemory;
 use rt_path::{Difference, least_values};
+use rt_rows::EXTENT_LIMIT;
 use std::alloc::Global;
-
-/// The most that an extent may be, in target steps.
-const EXTENT_LIMIT: i64 = 20_000_000;
 
 /// The positions of items along one axis, in target steps.
 #[derive(Drop)]
@@ -25,7 +23,7 @@ pub struct Line {
 pub fn line_up(alloc: Global, items: &[Item]) -> Result<Line, OutOfMemory>
     requires few { length items.now ≤ 65536 }
     requires items { All IsItem items.now }
-    requires side_by_side { side_by_side items.now ≤ℤ pos 20000000 }
+    requires side_by_side { side_by_side items.now ≤ℤ EXTENT_LIMIT }
     ensures { IfOk result (λ line. IsLeastLine items.now line) }
 {
     let values = least_of(alloc, items)?;
@@ -36,7 +34,7 @@ pub fn line_up(alloc: Global, items: &[Item]) -> Result<Line, OutOfMemory>
 fn least_of(alloc: Global, items: &[Item]) -> Result<Vec<i64>, OutOfMemory>
     requires few { length items.now ≤ 65536 }
     requires items { All IsItem items.now }
-    requires side_by_side { side_by_side items.now ≤ℤ pos 20000000 }
+    requires side_by_side { side_by_side items.now ≤ℤ EXTENT_LIMIT }
     ensures { IfOk result (λ values. AreLeastValues items.now values.items) }
 {
     let rows = rows_of(alloc, items)?;

@@ -25,7 +25,8 @@ use Rattle.rt_template.specs.Upwards.{MeetsUpwards}
 use Rattle.rt_template.specs.Drawing.{drawn_area}
 use Rattle.rt_template.specs.Rules.{BreaksNoRule, IsFirstBreach}
 use Rattle.rt_carry.proofs.Valid.{width_positive}
-use Rattle.rt_carry.proofs.Carrying.{beyond_holds, drawings_keep}
+use Rattle.rt_carry.proofs.Carrying.{drawings_keep}
+use Rattle.rt_rows.proofs.Rows.{beyond_met}
 use Rattle.rt_retarget.specs.Thin.{AreFiles, AreBuilt, ThinInput, IsThinLayout}
 use Rattle.rt_retarget.specs.Layout.{IsSourceLayout, IsFlatLayout, rectangles_in}
 use Rattle.rt_retarget.specs.Moved.{Moved, IsMovedOut, drawing_of}
@@ -52,9 +53,9 @@ drawn_nonempty : (job : Job) (at : Var → ℤ) → IsMeasured job.target → Me
     → IsNonempty (drawn_area job.target.grid at i)
 drawn_nonempty job at valid across upwards i h = record {
   across = times_lt job.target.grid (at (L i)) (at (R i)) valid.grid.low
-      (past (at (L i)) (width_wanted job i) (at (R i)) (width_positive job.target valid _) (beyond_holds at (L i) (R i) (width_wanted job i) (across.meets (Wide i) h)));
+      (past (at (L i)) (width_wanted job i) (at (R i)) (width_positive job.target valid _) (beyond_met at (L i) (R i) (width_wanted job i) (across.meets (Wide i) h)));
   upwards = times_lt job.target.grid (at (B i)) (at (T i)) valid.grid.low
-      (past (at (B i)) (pos 1) (at (T i)) one_at_least (beyond_holds at (B i) (T i) (pos 1) (upwards.meets (Tall i) h)));
+      (past (at (B i)) (pos 1) (at (T i)) one_at_least (beyond_met at (B i) (T i) (pos 1) (upwards.meets (Tall i) h)));
 }
 
 -- what is written for a job is its drawing, clean

@@ -6,5 +6,5 @@ mod positions;
 mod row;
 
 pub use name::Name;
-pub use positions::Positions;
+pub use positions::{EXTENT_LIMIT, Positions};
 pub use row::{Row, Term, Var};

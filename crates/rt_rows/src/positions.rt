@@ -1,4 +1,8 @@
+//! Positions of strips.
 use rt_base::List;
+
+/// The most that an extent of positions may be, across and upwards, in target steps. (This project's own.)
+pub const EXTENT_LIMIT: i64 = 20_000_000;
 
 /// Positions of strips, in target steps: one entry a strip in each list.
 #[derive(Drop)]

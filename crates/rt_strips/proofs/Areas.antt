@@ -5,7 +5,7 @@ use Rattle.std.specs.List.{filter}
 use Rattle.std.proofs.lemmas.List.{get_or-map}
 use mathlib.Core.Logic.{inl, inr}
 use Rattle.rt_cells.specs.Rectangles.{Rectangle, IsNonempty, ShareCellOrSide}
-use Rattle.rt_cells.specs.Islands.{AreSeparate}
+use Rattle.rt_rules.specs.Islands.{AreSeparate}
 use Rattle.rt_tech.specs.declared.table.Tech.{Tech}
 use Rattle.rt_tech.specs.Tech.{mask_count}
 use Rattle.rt_template.specs.declared.job.Strip.{Strip}
@@ -21,10 +21,6 @@ pub record IsNumbered (m : ℕ) (strips : List Placed) (r : Rectangle) : Type 0 
   pub strip : IsStrip strips number
   pub mask : mask_of strips number ≡ m
   pub area : (strip_at strips number).area ≡ r
-
--- the rectangle of a number, as a strip
-pub placed_at : (strips : List Strip) (i : ℕ) (d : Strip) → i < length strips → strip_at (map placed strips) i ≡ placed (get_or strips i d)
-placed_at strips i d h = get_or-map placed strips i d no_strip h
 
 pub shorter : (n k : ℕ) → suc k < suc n → k < n
 shorter n k h = omega arith
@@ -96,10 +92,6 @@ contained_at m (p ∷ strips) (suc n) h e =
 -- what has a number is in the list of its mask's rectangles
 pub numbered_area : (m : ℕ) (strips : List Placed) (r : Rectangle) → IsNumbered m strips r → Contains (areas_of m strips) r
 numbered_area m strips r n = subst (Contains (areas_of m strips)) n.area (contained_at m strips n.number n.strip.below_count n.mask)
-
--- the list of a mask's rectangles contains exactly those that have a number
-pub areas_are_numbered : (m : ℕ) (strips : List Placed) (r : Rectangle) → Contains (areas_of m strips) r ↔ IsNumbered m strips r
-areas_are_numbered m strips r = (area_numbers m strips r, numbered_area m strips r)
 
 -- the rectangles of each mask of separate rectangles are separate
 pub separate_areas : (strips : List Placed) → AreSeparateStrips strips → (m : ℕ) → AreSeparate (areas_of m strips)

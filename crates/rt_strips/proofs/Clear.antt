@@ -9,8 +9,10 @@ use Rattle.rt_template.specs.Strips.{Placed, placed, strip_at}
 use Rattle.rt_template.specs.Standing.{IsStrip}
 use Rattle.rt_template.specs.Separate.{AreSeparateStrips}
 use Rattle.rt_strips.specs.Touching.{OfOneMaskTouch, IsClearOfEarlier, AreClear}
-use Rattle.rt_strips.proofs.Areas.{placed_at, none_there}
-use Rattle.rt_strips.proofs.Contact.{rect_is_nonempty, shares_back}
+use Rattle.rt_template.proofs.Strips.{placed_at}
+use Rattle.rt_strips.proofs.Areas.{none_there}
+use Rattle.rt_strips.proofs.Contact.{rect_is_nonempty}
+use Rattle.rt_cells.proofs.Rectangles.{shares_back}
 
 -- every rectangle of the code has a cell
 pub strips_are_nonempty : (strips : List Strip) (i : ℕ) → i < length strips → IsNonempty (strip_at (map placed strips) i).area

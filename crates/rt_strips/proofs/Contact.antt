@@ -6,10 +6,8 @@ use mathlib.Core.Logic.{inl, inr}
 use Rattle.std.specs.Bool.{MatchBool}
 use Rattle.rt_base.specs.declared.plane.Rect.{Rect}
 use Rattle.rt_base.specs.Plane.{area}
-use Rattle.rt_cells.specs.Cells.{Adjacent}
-use Rattle.rt_cells.proofs.Families.{AreNext}
 use Rattle.rt_cells.specs.Rectangles.{Rectangle, IsNonempty, ShareCellOrSide}
-use Rattle.rt_cells.proofs.Separate.{touching_is_sharing, sharing_is_touching}
+use Rattle.rt_rules.proofs.Separate.{touching_is_sharing, sharing_is_touching}
 use Rattle.rt_strips.specs.Touching.{Meet, Overlap}
 
 pub meet : (low high low' high' : ℤ) → low <ℤ high → low' <ℤ high' → low ≤ℤ high' → low' ≤ℤ high → Meet low high low' high'
@@ -74,16 +72,3 @@ pub rows_decide : (a b : Rectangle) → IsNonempty a → IsNonempty b → Meet a
     → MatchBool v (ShareCellOrSide a b) (¬ ShareCellOrSide a b)
 rows_decide a b h g columns rows none true o = touching a b h g columns rows (inr o)
 rows_decide a b h g columns rows none false o = apart_at_corner a b none o
-
-adjacent_back : (p q : ℤ) → Adjacent p q → Adjacent q p
-adjacent_back p q (inl e) = inr e
-adjacent_back p q (inr e) = inl e
-
-next_back : (x y u v : ℤ) → AreNext x y u v → AreNext u v x y
-next_back x y u v (inl e) = inl (sym e.0, sym e.1)
-next_back x y u v (inr (inl e)) = inr (inl (adjacent_back x u e.0, sym e.1))
-next_back x y u v (inr (inr e)) = inr (inr (sym e.0, adjacent_back y v e.1))
-
--- what shares a cell or a side is shared with
-pub shares_back : (a b : Rectangle) → ShareCellOrSide a b → ShareCellOrSide b a
-shares_back a b s = (s.2, s.3, s.0, s.1, s.5, s.4, next_back s.0 s.1 s.2 s.3 s.6)

@@ -10,7 +10,7 @@ use mathlib.Core.Logic.{inl, inr}
 use Rattle.rt_cells.specs.Line.{Within, IsRun}
 use Rattle.rt_cells.specs.Cells.{row_of}
 use Rattle.rt_cells.specs.Rectangles.{ShareCellOrSide}
-use Rattle.rt_cells.proofs.Separate.{rectangle_row_is_run}
+use Rattle.rt_rules.proofs.Separate.{rectangle_row_is_run}
 use Rattle.rt_tech.specs.declared.table.Tech.{Tech}
 use Rattle.rt_template.specs.declared.job.Strip.{Strip}
 use Rattle.rt_template.specs.Strips.{Placed, placed, strip_at, mask_of, left_of, right_of, bottom_of, top_of, areas_of}
@@ -19,7 +19,8 @@ use Rattle.rt_template.specs.Drawing.{AreStripsOf, ComesBefore, covered_by}
 use Rattle.rt_template.specs.Separate.{AreSeparateStrips, AreOnMasksOf, extent_side_by_side}
 use Rattle.rt_strips.specs.Sorted.{compare_places, IsSortedByPlace}
 use Rattle.rt_strips.proofs.Renumbering.{renumbered}
-use Rattle.rt_strips.proofs.Areas.{placed_at, none_there, numbered_area, separate_areas, covered_there, separate_there, on_masks_there}
+use Rattle.rt_template.proofs.Strips.{placed_at}
+use Rattle.rt_strips.proofs.Areas.{none_there, numbered_area, separate_areas, covered_there, separate_there, on_masks_there}
 use Rattle.rt_strips.proofs.Extents.{same_extent}
 use Rattle.rt_strips.proofs.Contact.{same_corner_shares}
 use Rattle.rt_template.proofs.Separate.{none_stands}

@@ -3,8 +3,7 @@ use Rattle.std.proofs.Common.{◌≡◌, ℕ, ℤ, pos, ◌+ℤ◌, ◌-ℤ◌, 
 use Rattle.std.proofs.lemmas.Int.{ints, clamps}
 use Rattle.std.specs.Int.{int_max, int_min}
 use mathlib.Core.Logic.{inl, inr}
-use Rattle.rt_cells.specs.Line.{Within}
-use Rattle.rt_cells.proofs.Lines.{within, first_place, last_place}
+use Rattle.rt_cells.proofs.Lines.{first_place, last_place, common_first, common_second}
 use Rattle.rt_rows.specs.declared.row.Var.{Var}
 use Rattle.rt_template.specs.declared.job.Job.{Job}
 use Rattle.rt_template.specs.Strips.{Placed, left_of, bottom_of, top_of}
@@ -15,12 +14,6 @@ use Rattle.rt_template.specs.Upwards.{CoversColumns, IsChain}
 
 on_itself : (bottom top bottom' : ℤ) → bottom <ℤ top → top ≡ bottom' → bottom' ≡ bottom → ⊥
 on_itself bottom top bottom' h e f = omega (arith, ints)
-
-common_first : (a b a' b' : ℤ) → int_max a a' <ℤ int_min b b' → Within a b (int_max a a')
-common_first a b a' b' h = within _ _ _ (omega (arith, ints, clamps)) (omega (arith, ints, clamps))
-
-common_second : (a b a' b' : ℤ) → int_max a a' <ℤ int_min b b' → Within a' b' (int_max a a')
-common_second a b a' b' h = within _ _ _ (omega (arith, ints, clamps)) (omega (arith, ints, clamps))
 
 next : (top bottom : ℤ) → top ≡ bottom → bottom ≡ (top -ℤ pos 1) +ℤ pos 1
 next top bottom e = omega (arith, ints)

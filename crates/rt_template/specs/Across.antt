@@ -1,6 +1,7 @@
 -- The template across: which rows the positions have to meet there.
 use Rattle.std.specs.Prelude.{ℕ, ℤ, pos, ◌≤ℤ◌, ◌<ℤ◌, ◌⊎◌, List, map}
 use Rattle.rt_tech.specs.Tech.{width_of, space_of}
+use Rattle.rt_rows.specs.declared.positions.TheConstants.{EXTENT_LIMIT}
 use Rattle.rt_rows.specs.declared.row.Var.{Var}
 use Rattle.rt_rows.specs.declared.row.Var.TheVariants.{L, R, Width}
 use Rattle.rt_rows.specs.declared.row.Row.{Row}
@@ -17,7 +18,7 @@ strips_of job = map placed job.strips
 
 -- the most that an extent may be, in steps
 abbrev pub extent_limit : ℤ
-extent_limit = pos 20000000
+extent_limit = EXTENT_LIMIT
 
 -- the target width of a strip, and the target space of its mask, in steps
 abbrev pub width_wanted : Job → ℕ → ℤ

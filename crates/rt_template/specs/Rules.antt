@@ -1,7 +1,7 @@
 -- The rules of a table over a drawing, and the first of them that a drawing breaks.
 use Rattle.std.specs.Prelude.{◌≡◌, ℕ, ◌<◌, ℤ, ◌*ℤ◌, List}
-use Rattle.rt_cells.specs.Width.{KeepsWidth, WidthBreach}
-use Rattle.rt_cells.specs.Space.{KeepsSpace, SpaceBreach}
+use Rattle.rt_rules.specs.Width.{KeepsWidth, WidthBreach}
+use Rattle.rt_rules.specs.Space.{KeepsSpace, SpaceBreach}
 use Rattle.rt_base.specs.declared.plane.Cell.{Cell}
 use Rattle.rt_tech.specs.declared.table.Tech.{Tech}
 use Rattle.rt_tech.specs.declared.rules.RuleName.{RuleName}

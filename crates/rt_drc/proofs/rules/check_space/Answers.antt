@@ -1,6 +1,6 @@
 use Rattle.std.proofs.Common.{◌≡◌, map, refl, subst, w64, to_z, of_z, arith, rules}
 use Rattle.std.proofs.lemmas.Int.{ints}
-use Rattle.rt_cells.specs.Space.{SpaceBreach}
+use Rattle.rt_rules.specs.Space.{SpaceBreach}
 use Rattle.rt_template.specs.Strips.{placed}
 use Rattle.rt_template.specs.Drawing.{covered_by}
 use Rattle.rt_drc.proofs.Kept.{wide_keeps_width, mask_keeps_rules}

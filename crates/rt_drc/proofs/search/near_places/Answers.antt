@@ -1,6 +1,6 @@
 use Rattle.std.proofs.Common.{◌≡◌, ◌∙◌, w64, to_z, of_z, ◌≤ℤ◌, ◌<ℤ◌, arith}
 use Rattle.std.proofs.lemmas.Int.{ints}
-use Rattle.rt_cells.specs.Islands.{columns_between, rows_between}
+use Rattle.rt_cells.specs.Rectangles.{columns_between, rows_between}
 use Rattle.rt_base.specs.Plane.{area}
 use Rattle.rt_drc.proofs.Kept.{columns_below, rows_below, one_not_below}
 use Rattle.rt_drc.proofs.search.near_places.Goals as goal

@@ -1,5 +1,5 @@
 use Rattle.std.proofs.Common.{rules, ◌≡◌, get_or, ◌<ℤ◌, refl, subst, sym, arith}
-use Rattle.rt_base.specs.Plane.{IsCoordinate}
+use Rattle.rt_base.specs.Plane.{IsSide}
 use Rattle.rt_template.specs.declared.job.Strip.{Strip}
 use Rattle.rt_tech.specs.Tech.{IsLength}
 use Rattle.rt_path.specs.Least.{value_at}
@@ -34,8 +34,8 @@ returns-clause-item c =
       along = along;
       beside = subst (λ z. z <ℤ c.index-2.result.now) (sym starts)
           (subst (λ z. value_at c.args.columns.now.starts.items c.args.i <ℤ z) (sym ends) (c.requires.columns.nonempty c.args.i c.requires.strip));
-      begin = subst IsCoordinate (sym starts) (c.requires.columns.starts c.args.i c.requires.strip);
-      end = subst IsCoordinate (sym ends) (c.requires.columns.ends c.args.i c.requires.strip);
+      begin = subst IsSide (sym starts) (c.requires.columns.starts c.args.i c.requires.strip);
+      end = subst IsSide (sym ends) (c.requires.columns.ends c.args.i c.requires.strip);
       wanted = subst IsLength (sym c.width_of.ensures) (width_is_length c.args.job.now.target c.requires.target s.mask);
       apart = subst IsLength (sym c.space_of-space.ensures) (space_is_length c.args.job.now.target c.requires.target s.mask);
     })

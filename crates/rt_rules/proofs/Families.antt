@@ -5,15 +5,11 @@ use Rattle.std.proofs.lemmas.Int.{ints, clamps, by_lt_z}
 use Rattle.std.specs.Int.{int_max, int_min}
 use mathlib.Core.Logic.{inl, inr}
 use Rattle.rt_cells.specs.Line.{Within, IsRun, gap_of}
-use Rattle.rt_cells.specs.Cells.{row_of, Adjacent, ShareSide}
-use Rattle.rt_cells.specs.Width.{KeepsWidthAlongRows}
-use Rattle.rt_cells.specs.Space.{KeepsGapsAlongRows}
+use Rattle.rt_cells.specs.Cells.{row_of, Adjacent, AreNext}
+use Rattle.rt_rules.specs.Width.{KeepsWidthAlongRows}
+use Rattle.rt_rules.specs.Space.{KeepsGapsAlongRows}
 use Rattle.rt_cells.specs.Rectangles.{Rectangle}
 use Rattle.rt_cells.proofs.Lines.{within, first_place, last_place, not_before, not_after, one_before, antisymmetric}
-
--- two cells are one, or share a side
-abbrev pub AreNext : ℤ → ℤ → ℤ → ℤ → Type 0
-AreNext x y u v = ((u ≡ x) × (v ≡ y)) ⊎ ShareSide x y u v
 
 -- the members cover the cells, are nonempty along the axis, and are one where they share a cell or a side
 pub record IsFamily (member : Rectangle → Type 0) (low high bottom top : Rectangle → ℤ) (cells : ℤ → ℤ → Type 0) : Type 0 where

@@ -5,8 +5,8 @@ use Rattle.std.specs.Int.{int_max, int_min}
 use mathlib.Core.Logic.{inl, inr}
 use Rattle.rt_cells.specs.Line.{between}
 use Rattle.rt_cells.specs.Cells.{transposed}
-use Rattle.rt_cells.specs.Width.{KeepsWidthAlongRows, KeepsWidth, WidthBreachAlongRows, WidthBreach}
-use Rattle.rt_cells.specs.Space.{KeepsGapsAlongRows, KeepsSpace, IsNarrowGap, SpaceBreach}
+use Rattle.rt_rules.specs.Width.{KeepsWidthAlongRows, KeepsWidth, WidthBreachAlongRows, WidthBreach}
+use Rattle.rt_rules.specs.Space.{KeepsGapsAlongRows, KeepsSpace, IsNarrowGap, SpaceBreach}
 
 too_short : (w a b found : ℤ) → found ≡ (b -ℤ a) → found <ℤ w → w ≤ℤ (b -ℤ a) → ⊥
 too_short w a b found e h k = omega (arith, ints)

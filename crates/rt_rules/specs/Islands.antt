@@ -1,14 +1,6 @@
 -- Lists of rectangles of one mask of which no two touch.
 use Rattle.std.specs.Prelude.{◌≡◌, ℤ, ◌+ℤ◌, ◌≤ℤ◌, ◌⊎◌, List, Contains}
-use Rattle.rt_cells.specs.Line.{gap_of}
-use Rattle.rt_cells.specs.Rectangles.{Rectangle, IsNonempty, ShareCellOrSide}
-
--- how many columns, and how many rows, lie between two rectangles
-abbrev pub columns_between : Rectangle → Rectangle → ℤ
-columns_between a b = gap_of a.left a.right b.left b.right
-
-abbrev pub rows_between : Rectangle → Rectangle → ℤ
-rows_between a b = gap_of a.bottom a.top b.bottom b.top
+use Rattle.rt_cells.specs.Rectangles.{Rectangle, IsNonempty, ShareCellOrSide, columns_between, rows_between}
 
 -- no two of the rectangles share a cell or a side
 pub record AreSeparate (rectangles : List Rectangle) : Type 0 where

@@ -4,14 +4,14 @@ use Rattle.std.proofs.lemmas.Int.{ints, clamps}
 use Rattle.std.specs.Int.{int_max, int_min}
 use mathlib.Core.Logic.{inl, inr}
 use Rattle.rt_cells.specs.Line.{Within, IsRun, between, nearest_place}
-use Rattle.rt_cells.specs.Cells.{row_of, transposed, Adjacent, Joined}
+use Rattle.rt_cells.specs.Cells.{row_of, transposed, Adjacent, AreNext, Joined}
 use Rattle.rt_cells.specs.Cells.Joined.{here, onward}
-use Rattle.rt_cells.specs.Width.{IsShortRun, WidthBreach}
-use Rattle.rt_cells.specs.Space.{SpaceBreach}
-use Rattle.rt_cells.specs.Rectangles.{Rectangle, IsNonempty, Holds, Covers, ShareCellOrSide}
-use Rattle.rt_cells.specs.Islands.{columns_between, rows_between, AreSeparate}
+use Rattle.rt_rules.specs.Width.{IsShortRun, WidthBreach}
+use Rattle.rt_rules.specs.Space.{SpaceBreach}
+use Rattle.rt_cells.specs.Rectangles.{Rectangle, IsNonempty, Holds, Covers, ShareCellOrSide, columns_between, rows_between}
+use Rattle.rt_rules.specs.Islands.{AreSeparate}
 use Rattle.rt_cells.proofs.Lines.{at_most, first_place, one_before, passed_along, nearest_within, nearest_between, nearest_meet, nearest_touch}
-use Rattle.rt_cells.proofs.Families.{AreNext, IsFamily, row_is_run}
+use Rattle.rt_rules.proofs.Families.{IsFamily, row_is_run}
 
 -- two of the rectangles that share a cell or a side are one
 pub sharing_is_same : (rs : List Rectangle) → AreSeparate rs → (r q : Rectangle) (x y u v : ℤ) → Contains rs r → Contains rs q
@@ -80,18 +80,6 @@ pub low_is_breach : (rs : List Rectangle) → AreSeparate rs → (w : ℤ) (r : 
 low_is_breach rs separate w r m short =
     inr (inl (short_run w (transposed (Covers rs)) r.bottom r.left r.top
     (rectangle_column_is_run rs separate r m r.left (first_place _ _ (separate.nonempty r m).across)) short))
-
--- two cells of a rectangle are joined wherever its cells are covered
-pub joined_inside : (cells : ℤ → ℤ → Type 0) (r : Rectangle) → ((x y : ℤ) → Holds r x y → cells x y)
-    → (x y u v : ℤ) → Holds r x y → Holds r u v → Joined cells x y u v
-joined_inside cells r covered x y u v h k =
-    let across : Joined cells x y u y =
-    passed_along (λ z. Joined cells x y z y) r.left r.right
-    (λ z t hz ht near j. onward z y t y j (inl (near, refl)) (covered t y (record { column = ht; row = h.row })))
-    x u h.column k.column (here (covered x y h)) in
-    passed_along (λ z. Joined cells x y u z) r.bottom r.top
-    (λ z t hz ht near j. onward u z u t j (inr (refl, near)) (covered u t (record { column = k.column; row = ht })))
-    y v h.row k.row across
 
 -- what is joined to a cell of one of the rectangles lies in it
 pub joined_stays : (rs : List Rectangle) → AreSeparate rs → (r : Rectangle) → Contains rs r → (x y u v : ℤ) → Holds r x y

@@ -1,0 +1,32 @@
+-- Cells of a rectangle are joined, and what shares a cell or a side is shared with.
+use Rattle.std.proofs.Common.{◌≡◌, ℤ, ◌⊎◌, refl, sym}
+use mathlib.Core.Logic.{inl, inr}
+use Rattle.rt_cells.specs.Cells.{Adjacent, AreNext, Joined}
+use Rattle.rt_cells.specs.Cells.Joined.{here, onward}
+use Rattle.rt_cells.specs.Rectangles.{Rectangle, Holds, ShareCellOrSide}
+use Rattle.rt_cells.proofs.Lines.{passed_along}
+
+-- two cells of a rectangle are joined wherever its cells are covered
+pub joined_inside : (cells : ℤ → ℤ → Type 0) (r : Rectangle) → ((x y : ℤ) → Holds r x y → cells x y)
+    → (x y u v : ℤ) → Holds r x y → Holds r u v → Joined cells x y u v
+joined_inside cells r covered x y u v h k =
+    let across : Joined cells x y u y =
+    passed_along (λ z. Joined cells x y z y) r.left r.right
+    (λ z t hz ht near j. onward z y t y j (inl (near, refl)) (covered t y (record { column = ht; row = h.row })))
+    x u h.column k.column (here (covered x y h)) in
+    passed_along (λ z. Joined cells x y u z) r.bottom r.top
+    (λ z t hz ht near j. onward u z u t j (inr (refl, near)) (covered u t (record { column = k.column; row = ht })))
+    y v h.row k.row across
+
+adjacent_back : (p q : ℤ) → Adjacent p q → Adjacent q p
+adjacent_back p q (inl e) = inr e
+adjacent_back p q (inr e) = inl e
+
+next_back : (x y u v : ℤ) → AreNext x y u v → AreNext u v x y
+next_back x y u v (inl e) = inl (sym e.0, sym e.1)
+next_back x y u v (inr (inl e)) = inr (inl (adjacent_back x u e.0, sym e.1))
+next_back x y u v (inr (inr e)) = inr (inr (sym e.0, adjacent_back y v e.1))
+
+-- what shares a cell or a side is shared with
+pub shares_back : (a b : Rectangle) → ShareCellOrSide a b → ShareCellOrSide b a
+shares_back a b s = (s.2, s.3, s.0, s.1, s.5, s.4, next_back s.0 s.1 s.2 s.3 s.6)

@@ -1,0 +1,4 @@
+pub mod Breaches
+pub mod Families
+pub mod Separate
+pub mod Islands
