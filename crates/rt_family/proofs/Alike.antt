@@ -1,12 +1,12 @@
 -- Rules of width and space are kept alike by predicates that hold of the same cells; what a list of rectangles covers, by numbers.
-use Rattle.std.proofs.Common.{◌≡◌, ℕ, ◌<◌, ℤ, List, length, get_or, sym, subst, ◌∙◌, inl, inr}
+use Rattle.std.proofs.Common.{◌≡◌, ℤ, List, length, get_or, sym, subst, ◌∙◌, inl, inr}
 use Rattle.std.proofs.lemmas.List.{get_or_default}
 use Rattle.std.proofs.lemmas.List.Elements.{Contains-get_or}
 use Rattle.rt_cells.specs.Line.{IsRun, IsGap}
 use Rattle.rt_cells.specs.Cells.{row_of, transposed, Joined}
 use Rattle.rt_cells.specs.Cells.Joined.{here, onward}
-use Rattle.rt_cells.specs.Width.{KeepsWidthAlongRows, KeepsWidth}
-use Rattle.rt_cells.specs.Space.{KeepsGapsAlongRows, KeepsSpace}
+use Rattle.rt_rules.specs.Width.{KeepsWidthAlongRows, KeepsWidth}
+use Rattle.rt_rules.specs.Space.{KeepsGapsAlongRows, KeepsSpace}
 use Rattle.rt_cells.specs.Rectangles.{Rectangle, Holds, Covers}
 use Rattle.rt_family.specs.Strips.{CoveredBy}
 use Rattle.rt_family.specs.Laws.{IsNumber}

@@ -4,7 +4,7 @@ use Rattle.std.proofs.lemmas.Int.{ints, clamps, by_lt_z}
 use Rattle.std.specs.Int.{int_max}
 use Rattle.rt_cells.specs.Line.{Within}
 use Rattle.rt_cells.specs.Rectangles.{Rectangle}
-use Rattle.rt_family.specs.Strips.{ShareColumn, StandsOn, IsListed, HoldsCell, CoveredBy}
+use Rattle.rt_family.specs.Strips.{ShareColumn, StandsOn, IsListed}
 
 -- a fact, or that it isn't so
 abbrev pub OrNot : Type 0 → Type 0

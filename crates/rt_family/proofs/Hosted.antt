@@ -2,8 +2,7 @@
 use Rattle.std.proofs.Common.{ℕ, ℤ, pos, ◌≤ℤ◌, ◌<ℤ◌, ◌⊎◌, List, All, Contains, arith, inl, inr}
 use Rattle.std.proofs.lemmas.Int.{ints, clamps, by_lt_z}
 use Rattle.std.proofs.lemmas.List.Elements.{All-contains}
-use Rattle.rt_cells.specs.Rectangles.{Rectangle, IsNonempty, Holds}
-use Rattle.rt_cells.specs.Islands.{columns_between, rows_between}
+use Rattle.rt_cells.specs.Rectangles.{Rectangle, IsNonempty, Holds, columns_between, rows_between}
 use Rattle.rt_family.specs.Strips.{ShareColumn, ShareRow, SpansColumns, HoldsCell, IsChain}
 use Rattle.rt_family.specs.Carried.{AreFar, IsCarried, IsKeptClear}
 use Rattle.rt_family.proofs.Places.{far_right, far_left, far_above, far_below}

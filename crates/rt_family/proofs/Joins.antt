@@ -1,5 +1,5 @@
 -- Joined cells: both ways, and one walk after another.
-use Rattle.std.proofs.Common.{ℤ, ◌⊎◌, refl, sym, inl, inr}
+use Rattle.std.proofs.Common.{ℤ, sym, inl, inr}
 use Rattle.rt_cells.specs.Cells.{Adjacent, ShareSide, Joined}
 use Rattle.rt_cells.specs.Cells.Joined.{here, onward}
 

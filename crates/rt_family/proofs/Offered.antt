@@ -1,7 +1,7 @@
 -- The public laws, from the lemmas over any strips.
-use Rattle.std.proofs.Common.{◌≡◌, ℕ, ◌<◌, ◌⊎◌, length, arith, inl, inr}
-use Rattle.rt_cells.specs.Rectangles.{Rectangle, Covers}
-use Rattle.rt_family.specs.Strips.{IsListed, CoveredBy}
+use Rattle.std.proofs.Common.{◌≡◌, ℕ, ◌<◌, ◌⊎◌, arith, inl, inr}
+use Rattle.rt_cells.specs.Rectangles.{Covers}
+use Rattle.rt_family.specs.Strips.{IsListed}
 use Rattle.rt_family.specs.Laws
 use Rattle.rt_family.specs.Laws.{IsOfMask, IsNumber}
 use Rattle.rt_family.proofs.Finite.{OrNot, both_or_not, decided_as}

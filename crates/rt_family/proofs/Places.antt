@@ -1,8 +1,7 @@
 -- Numbers that several of the lemmas need.
 use Rattle.std.proofs.Common.{◌≡◌, ℕ, ℤ, pos, ◌+ℤ◌, ◌≤ℤ◌, ◌<ℤ◌, arith}
 use Rattle.std.proofs.lemmas.Int.{ints, clamps}
-use Rattle.rt_cells.specs.Rectangles.{Rectangle}
-use Rattle.rt_cells.specs.Islands.{columns_between, rows_between}
+use Rattle.rt_cells.specs.Rectangles.{Rectangle, columns_between, rows_between}
 use Rattle.rt_cells.proofs.Lines.{distance}
 
 up_to : (a b : ℤ) (n : ℕ) → b ≡ a +ℤ pos n → b ≤ℤ (a +ℤ pos n)

@@ -1,10 +1,9 @@
 -- A drawing that meets the rows carries its mask.
-use Rattle.std.proofs.Common.{◌≡◌, ℕ, ℤ, pos, ◌+ℤ◌, ◌≤ℤ◌, ◌<ℤ◌, ◌⊎◌, arith, inl, inr}
+use Rattle.std.proofs.Common.{ℕ, ℤ, pos, ◌≤ℤ◌, ◌<ℤ◌, arith, inl, inr}
 use Rattle.std.proofs.lemmas.Int.{ints, clamps, by_lt_z}
 use Rattle.rt_cells.specs.Line.{Within, gap_of}
-use Rattle.rt_cells.specs.Rectangles.{Rectangle}
-use Rattle.rt_cells.specs.Islands.{columns_between}
-use Rattle.rt_family.specs.Strips.{ShareRow, IsListed, IsFamily, StandsOn, IsClimbed}
+use Rattle.rt_cells.specs.Rectangles.{Rectangle, columns_between}
+use Rattle.rt_family.specs.Strips.{ShareRow, IsListed, IsFamily, StandsOn}
 use Rattle.rt_family.specs.Strips.IsClimbed.{step}
 use Rattle.rt_family.specs.Carried.{AreNumbers, IsCarried}
 use Rattle.rt_family.proofs.Places.{far_above}

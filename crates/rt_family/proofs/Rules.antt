@@ -4,8 +4,8 @@ use Rattle.std.proofs.lemmas.Int.{ints, clamps, by_lt_z}
 use Rattle.std.specs.Int.{int_max, int_min}
 use Rattle.rt_cells.specs.Line.{Within, IsGap, gap_of}
 use Rattle.rt_cells.specs.Cells.{row_of, transposed, Adjacent, Joined, MeetAtCornerAlone}
-use Rattle.rt_cells.specs.Width.{KeepsWidthAlongRows, KeepsWidth}
-use Rattle.rt_cells.specs.Space.{KeepsPiecesApart, KeepsSpace}
+use Rattle.rt_rules.specs.Width.{KeepsWidthAlongRows, KeepsWidth}
+use Rattle.rt_rules.specs.Space.{KeepsPiecesApart, KeepsSpace}
 use Rattle.rt_cells.specs.Rectangles.{Rectangle}
 use Rattle.rt_family.specs.Strips.{IsListed, ShareColumn, HoldsCell, CoveredBy, AreConnected}
 use Rattle.rt_family.specs.Carried.{IsCarried, IsCarriedInColumns}

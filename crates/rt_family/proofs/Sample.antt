@@ -1,10 +1,10 @@
 -- An L of two strips, one standing on the other, is carried.
-use Rattle.std.proofs.Common.{◌≡◌, ℕ, zero, suc, ◌<◌, ℤ, pos, ◌+ℤ◌, ◌-ℤ◌, ◌≤ℤ◌, ◌<ℤ◌, ◌⊎◌, List, refl, arith, inl}
+use Rattle.std.proofs.Common.{◌≡◌, ℕ, zero, suc, ℤ, pos, ◌+ℤ◌, ◌-ℤ◌, ◌≤ℤ◌, ◌<ℤ◌, ◌⊎◌, List, refl, arith, inl}
 use Rattle.std.proofs.lemmas.Int.{ints, clamps}
 use Rattle.std.proofs.lemmas.List.Elements.{All-contains}
 use Rattle.std.specs.Int.{int_max, int_min}
 use Rattle.rt_cells.specs.Line.{Within}
-use Rattle.rt_cells.specs.Rectangles.{Rectangle, IsNonempty}
+use Rattle.rt_cells.specs.Rectangles.{IsNonempty}
 use Rattle.rt_family.specs.Strips.{ShareRow, IsFamily, StandsOn, IsClimbed, IsChain}
 use Rattle.rt_family.specs.Strips.IsClimbed.{step}
 use Rattle.rt_family.specs.Strips.IsChain.{one, more}

@@ -3,11 +3,10 @@ use Rattle.std.proofs.Common.{◌≡◌, ℕ, zero, suc, ℤ, pos, ◌+ℤ◌, �
 use Rattle.std.proofs.lemmas.Int.{ints, by_lt_z}
 use Rattle.std.proofs.lemmas.List.Elements.{All-weaker, All-contains}
 use Rattle.std.specs.Int.{int_max, int_min}
-use Rattle.rt_cells.specs.Line.{Within, gap_of}
+use Rattle.rt_cells.specs.Line.{Within}
 use Rattle.rt_cells.specs.Rectangles.{Rectangle, scaled}
 use Rattle.rt_cells.proofs.Lines.{at_most, distance}
-use Rattle.rt_cells.proofs.Times.{not_negative, times_sum, times_sub, times_le, times_lt, times_cancel_lt, times_int_max, times_int_min}
-use Rattle.rt_cells.proofs.Islands.{times_gap_of}
+use Rattle.rt_cells.proofs.Times.{not_negative, times_sum, times_sub, times_positive, times_le, times_lt, times_cancel_lt, times_int_max, times_int_min, times_beyond, times_gap}
 use Rattle.rt_family.specs.Carried.{AreFar, IsDrawnOver, IsCarried, IsCarriedInColumns}
 use Rattle.rt_family.proofs.Places.{by_width}
 use Rattle.rt_family.proofs.Chains.{head_of}
@@ -22,12 +21,6 @@ times_next g q = times_sum g q (pos 1) ∙ ap (λ z. g *ℤ q +ℤ z) (times_one
   where
     times_one : (g : ℤ) → g *ℤ pos 1 ≡ g
     times_one g = omega (arith, ints)
-
-positive_times : (a b : ℤ) → pos 1 ≤ℤ a → pos 1 ≤ℤ b → pos 1 ≤ℤ (a *ℤ b)
-positive_times a b h k = from_one (a *ℤ b) a (times_le a (pos 1) b (not_negative a h) k) h
-  where
-    from_one : (p a : ℤ) → (a *ℤ pos 1) ≤ℤ p → pos 1 ≤ℤ a → pos 1 ≤ℤ p
-    from_one p a h k = omega (arith, ints)
 
 module _ (grid : ℤ) (some_grid : pos 1 ≤ℤ grid) where
   whole : pos 0 ≤ℤ grid
@@ -84,12 +77,6 @@ module _ (grid : ℤ) (some_grid : pos 1 ≤ℤ grid) where
       ends : (a g x u : ℤ) → pos 1 ≤ℤ g → x <ℤ (a +ℤ g) → u ≡ x +ℤ pos 1 → u <ℤ ((a +ℤ g) +ℤ g)
       ends a g x u p h e = omega (arith, ints)
 
-  times_beyond : (a n b : ℤ) → (a +ℤ n) ≤ℤ b → (grid *ℤ a +ℤ grid *ℤ n) ≤ℤ (grid *ℤ b)
-  times_beyond a n b h = subst (λ z. z ≤ℤ (grid *ℤ b)) (times_sum grid a n) (times_le grid (a +ℤ n) b whole h)
-
-  times_gap : (s low high low' high' : ℤ) → s ≤ℤ gap_of low high low' high' → (grid *ℤ s) ≤ℤ gap_of (grid *ℤ low) (grid *ℤ high) (grid *ℤ low') (grid *ℤ high')
-  times_gap s low high low' high' h = subst (λ z. (grid *ℤ s) ≤ℤ z) (times_gap_of grid low high low' high' whole) (times_le grid s (gap_of low high low' high') whole h)
-
   times_shared : (w a b p q : ℤ) → w ≤ℤ (int_min b q -ℤ int_max a p) → (grid *ℤ w) ≤ℤ (int_min (grid *ℤ b) (grid *ℤ q) -ℤ int_max (grid *ℤ a) (grid *ℤ p))
   times_shared w a b p q h =
       subst (λ z. (grid *ℤ w) ≤ℤ z)
@@ -97,8 +84,8 @@ module _ (grid : ℤ) (some_grid : pos 1 ≤ℤ grid) where
       (times_le grid w (int_min b q -ℤ int_max a p) whole h)
 
   times_far : (n : ℤ) (a b : Rectangle) → AreFar n a b → AreFar (grid *ℤ n) (scaled grid a) (scaled grid b)
-  times_far n a b (inl g) = inl (times_gap n a.left a.right b.left b.right g)
-  times_far n a b (inr g) = inr (times_gap n a.bottom a.top b.bottom b.top g)
+  times_far n a b (inl g) = inl (times_gap grid n a.left a.right b.left b.right whole g)
+  times_far n a b (inr g) = inr (times_gap grid n a.bottom a.top b.bottom b.top whole g)
 
   module _ (member : ℕ → Type 0) (source drawn : ℕ → Rectangle) (w : ℤ) (s : ℕ → ℕ → ℤ) (carried : IsCarried member source drawn w s) where
     scaled_across : (i : ℕ) → member i → (drawn i).left <ℤ (drawn i).right
@@ -108,22 +95,22 @@ module _ (grid : ℤ) (some_grid : pos 1 ≤ℤ grid) where
     pub scaled_carried : IsCarried member source (λ i. scaled grid (drawn i)) (grid *ℤ w) (λ i j. grid *ℤ s i j)
     scaled_carried = record {
       numbers = record {
-        some_width = positive_times grid w some_grid carried.numbers.some_width;
-        some_space = λ i j m n. positive_times grid (s i j) some_grid (carried.numbers.some_space i j m n);
+        some_width = times_positive grid w some_grid carried.numbers.some_width;
+        some_space = λ i j m n. times_positive grid (s i j) some_grid (carried.numbers.some_space i j m n);
         even_space = λ i j m n. ap (λ z. grid *ℤ z) (carried.numbers.even_space i j m n);
       };
       family = carried.family;
-      wide = λ i m. times_beyond (drawn i).left w (drawn i).right (carried.wide i m);
+      wide = λ i m. times_beyond grid (drawn i).left w (drawn i).right whole (carried.wide i m);
       tall = λ i m. times_lt grid (drawn i).bottom (drawn i).top some_grid (carried.tall i m);
       adjoin = λ i j stands. ap (λ z. grid *ℤ z) (carried.adjoin i j stands);
       share = λ i j stands. times_shared w (drawn i).left (drawn i).right (drawn j).left (drawn j).right (carried.share i j stands);
-      across = λ i j m n row l. times_beyond (drawn i).right (s i j) (drawn j).left (carried.across i j m n row l);
+      across = λ i j m n row l. times_beyond grid (drawn i).right (s i j) (drawn j).left whole (carried.across i j m n row l);
       apart = λ i j m n l. elim (carried.apart i j m n l) [ inl c ↦ inl c | inr f ↦ inr (times_far (s i j) (drawn i) (drawn j) f) ];
       seen = λ i j x m n l h k.
           let q = place_of (drawn i).left (drawn i).right x (scaled_across i m) h in
           elim (carried.seen i j q.0 m n l (place_in x q.0 _ _ q.1 h) (place_in x q.0 _ _ q.1 k)) [
             | inl stands ↦ inl stands
-            | inr (inl far) ↦ inr (inl (times_beyond (drawn i).top (s i j) (drawn j).bottom far))
+            | inr (inl far) ↦ inr (inl (times_beyond grid (drawn i).top (s i j) (drawn j).bottom whole far))
             | inr (inr (t, b)) ↦ inr (inr (t, record { strip = b.strip; column = place_out x q.0 _ _ q.1 b.column; above = b.above; below = b.below }))
           ];
     }
@@ -138,7 +125,7 @@ module _ (grid : ℤ) (some_grid : pos 1 ≤ℤ grid) where
           let t = place_next chain.x chain.u q.0 q.1 chain.one_or_two in
           let back : (k : ℕ) → IsDrawnOver member source drawn q.0 t.0 k → IsDrawnOver member source fine chain.x chain.u k =
           λ k o. record { strip = o.strip; first = place_out chain.x q.0 _ _ q.1 o.first; second = place_out chain.u t.0 _ _ t.2 o.second } in
-          times_beyond (drawn first).bottom w (drawn last).top (columns.runs first last (record {
+          times_beyond grid (drawn first).bottom w (drawn last).top whole (columns.runs first last (record {
             x = q.0;
             u = t.0;
             one_or_two = t.1;

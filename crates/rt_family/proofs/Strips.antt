@@ -7,7 +7,7 @@ use Rattle.rt_cells.specs.Cells.{row_of, Adjacent, ShareSide, Joined}
 use Rattle.rt_cells.specs.Cells.Joined.{here, onward}
 use Rattle.rt_cells.specs.Rectangles.{Rectangle, IsNonempty}
 use Rattle.rt_cells.proofs.Lines.{within, first_place, last_place, passed_along, not_before, not_after, antisymmetric}
-use Rattle.rt_cells.proofs.Separate.{joined_inside}
+use Rattle.rt_cells.proofs.Rectangles.{joined_inside}
 use Rattle.rt_family.specs.Strips.{ShareColumn, ShareRow, HoldsCell, CoveredBy, IsFamily, StandsOn, AreConnected}
 use Rattle.rt_family.specs.Strips.AreConnected.{same, up, down}
 use Rattle.rt_family.proofs.Joins.{joined_ends, joined_both, joined_next, joined_back}

@@ -1,10 +1,9 @@
 -- Strips of which none stands on another: with the rows for width and space they are carried.
-use Rattle.std.proofs.Common.{◌≡◌, ℕ, ℤ, pos, ◌+ℤ◌, ◌≤ℤ◌, ◌⊎◌, List, arith, inl, inr}
+use Rattle.std.proofs.Common.{ℕ, ℤ, ◌+ℤ◌, ◌≤ℤ◌, List, arith, inl, inr}
 use Rattle.std.proofs.lemmas.Int.{ints, clamps}
 use Rattle.rt_cells.specs.Rectangles.{Rectangle}
-use Rattle.rt_cells.specs.Islands.{columns_between}
 use Rattle.rt_family.proofs.Places.{by_width, far_above}
-use Rattle.rt_family.specs.Strips.{ShareRow, IsFamily, StandsOn, IsChain}
+use Rattle.rt_family.specs.Strips.{IsChain}
 use Rattle.rt_family.specs.Strips.IsChain.{one, more}
 use Rattle.rt_family.specs.Carried.{IsCarried, IsCarriedInColumns}
 use Rattle.rt_family.specs.Rows.{IsUntouched}

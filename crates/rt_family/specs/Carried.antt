@@ -2,8 +2,7 @@
 use Rattle.std.specs.Prelude.{◌≡◌, ℕ, ℤ, pos, ◌+ℤ◌, ◌-ℤ◌, ◌≤ℤ◌, ◌<ℤ◌, ◌⊎◌, List, All}
 use Rattle.std.specs.Int.{int_max, int_min}
 use Rattle.rt_cells.specs.Line.{Within}
-use Rattle.rt_cells.specs.Rectangles.{Rectangle}
-use Rattle.rt_cells.specs.Islands.{columns_between, rows_between}
+use Rattle.rt_cells.specs.Rectangles.{Rectangle, columns_between, rows_between}
 use Rattle.rt_family.specs.Strips.{ShareRow, IsFamily, StandsOn, IsClimbed, IsChain}
 
 -- drawn columns over the rows of the source

@@ -3,8 +3,8 @@ use Rattle.std.specs.Prelude.{◌≡◌, ℕ, ◌<◌, ℤ, pos, ◌-ℤ◌, ◌
 use Rattle.rt_cells.specs.Line.{Within, IsRun, IsGap}
 use Rattle.rt_cells.specs.Cells.{row_of, transposed, Joined}
 use Rattle.rt_cells.specs.Rectangles.{Rectangle, IsNonempty, Holds, Covers, scaled}
-use Rattle.rt_cells.specs.Width.{KeepsWidth}
-use Rattle.rt_cells.specs.Space.{KeepsPiecesApart, KeepsSpace}
+use Rattle.rt_rules.specs.Width.{KeepsWidth}
+use Rattle.rt_rules.specs.Space.{KeepsPiecesApart, KeepsSpace}
 use Rattle.rt_family.specs.Strips.{ShareColumn, ShareRow, SpansColumns, HoldsCell, CoveredBy, IsFamily, AreConnected, IsChain, AreHosts}
 use Rattle.rt_family.specs.Carried.{AreFar, AreNumbers, IsCarried, IsCarriedInColumns, IsKeptClear}
 use Rattle.rt_family.specs.Rows.{MeetsRows, IsUntouched}

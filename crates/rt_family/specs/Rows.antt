@@ -1,8 +1,7 @@
 -- What rows ask of the strips of one mask, as inequalities between drawn ends under conditions on the source.
 use Rattle.std.specs.Prelude.{ℕ, ℤ, pos, ◌+ℤ◌, ◌≤ℤ◌, ◌<ℤ◌, ◌⊎◌}
 use Rattle.rt_cells.specs.Line.{Within}
-use Rattle.rt_cells.specs.Rectangles.{Rectangle}
-use Rattle.rt_cells.specs.Islands.{columns_between}
+use Rattle.rt_cells.specs.Rectangles.{Rectangle, columns_between}
 use Rattle.rt_family.specs.Strips.{ShareRow, IsFamily, StandsOn, IsClimbed}
 use Rattle.rt_family.specs.Carried.{AreNumbers, LiesBetween}
 

@@ -1,6 +1,7 @@
 -- From the parts of a run to the relation of the headline.
-use Rattle.std.proofs.Common.{◌≡◌, ℕ, ◌+◌, ◌<◌, ◌≤◌, ℤ, pos, ◌+ℤ◌, ◌<ℤ◌, ◌≤ℤ◌, List, [], length, map, None, inr, ap, ◌∙◌, sym, subst, arith}
+use Rattle.std.proofs.Common.{◌≡◌, ℕ, ◌+◌, ◌<◌, ◌≤◌, ℤ, pos, ◌+ℤ◌, ◌<ℤ◌, ◌≤ℤ◌, List, length, map, inr, ap, ◌∙◌, sym, subst, arith}
 use Rattle.std.proofs.lemmas.Int.{ints}
+use Rattle.std.proofs.lemmas.List.{length-map}
 use Rattle.rt_cells.specs.Rectangles.{IsNonempty}
 use Rattle.rt_cells.proofs.Times.{times_lt}
 use Rattle.gds_stream.specs.declared.library.Library.{Library}
@@ -13,8 +14,8 @@ use Rattle.rt_tech.specs.declared.table.Tech.{Tech}
 use Rattle.rt_tech.specs.declared.table.Which.TheVariants.{Source, Target}
 use Rattle.rt_tech.specs.Tech.{mask_count, IsMeasured}
 use Rattle.rt_tech.specs.declared.sizes.Sizes.{Sizes}
-use Rattle.rt_sizes.specs.Wishes.{wishes_fault}
 use Rattle.rt_tech.proofs.Measured.{measured}
+use Rattle.rt_tables.proofs.Alike.{same_mask_count}
 use Rattle.rt_tables.proofs.Valid.{valid_table}
 use Rattle.rt_template.specs.declared.job.Job.{Job}
 use Rattle.rt_template.specs.declared.job.Strip.{Strip}
@@ -24,19 +25,23 @@ use Rattle.rt_template.specs.Across.{strips_of, width_wanted, MeetsAcross}
 use Rattle.rt_template.specs.Upwards.{MeetsUpwards}
 use Rattle.rt_template.specs.Drawing.{drawn_area}
 use Rattle.rt_template.specs.Rules.{BreaksNoRule, IsFirstBreach}
+use Rattle.rt_template.specs.Across.{extent_limit}
+use Rattle.rt_template.specs.Separate.{AreSeparateStrips, AreOnMasksOf, extent_side_by_side}
+use Rattle.gds_flat.specs.Drawn.{AreDrawable}
 use Rattle.rt_carry.proofs.Valid.{width_positive}
 use Rattle.rt_carry.proofs.Carrying.{drawings_keep}
 use Rattle.rt_rows.proofs.Rows.{beyond_met}
+use Rattle.rt_retarget.specs.declared.layout.TheConstants.{RECTANGLE_LIMIT}
 use Rattle.rt_retarget.specs.Thin.{AreFiles, AreBuilt, ThinInput, IsThinLayout}
-use Rattle.rt_retarget.specs.Layout.{IsSourceLayout, IsFlatLayout, rectangles_in}
+use Rattle.rt_retarget.specs.Layout.{IsSourceLayout, IsWrittenAs, rectangles_in}
 use Rattle.rt_retarget.specs.Moved.{Moved, IsMovedOut, drawing_of}
 use Rattle.rt_retarget.specs.declared.answer.Fault.{Fault}
 use Rattle.rt_retarget.specs.declared.answer.Fault.TheVariants.{TableToml, BadTable, TablesDiffer, SizesToml, BadSizes, NotBuilt, BadStream, Unflattened, SourceRule, OutOfMemory}
-use Rattle.rt_retarget.specs.Answers.{IsDone, IsFaultOf}
-use Rattle.rt_retarget.specs.Stages.{IsFlatFaultOf, IsSourceFaultOf, IsStrayFaultOf}
-use Rattle.rt_retarget.specs.Making.{IsThinJob, IsJobOf, IsWrittenFor, IsThinCase}
+use Rattle.rt_retarget.specs.Answers.{IsDone}
+use Rattle.rt_retarget.specs.Stages.{IsSourceFaultOf, IsStrayFaultOf, IsFaultOfCell}
+use Rattle.rt_retarget.specs.Jobs.{AreMatched, AreThinStrips, IsThinJob, IsJobOfFiles, IsWrittenFor}
 use Rattle.rt_retarget.proofs.Items.{on_mask}
-use Rattle.rt_retarget.proofs.Cells.{IsCellOf, reached_cell}
+use Rattle.rt_retarget.proofs.Cells.{IsCellOf, reached_cell, are_drawable}
 use Rattle.rt_retarget.proofs.Flattened.{drawn_layout, drawables}
 
 past : (low by high : ℤ) → pos 1 ≤ℤ by → (low +ℤ by) ≤ℤ high → low <ℤ high
@@ -59,22 +64,27 @@ drawn_nonempty job at valid across upwards i h = record {
 }
 
 -- what is written for a job is its drawing, clean
-pub moved_out : (job : Job) (library : Library) (cell : List ℕ) (bytes : List ℕ) → IsThinJob job → (written : IsWrittenFor job library.name cell bytes)
-    → IsMovedOut bytes cell library job written.at
+moved_out : (job : Job) (library : Library) (cell : List ℕ) (bytes : List ℕ) → IsThinJob job → (written : IsWrittenFor job library.name cell bytes)
+    → IsMovedOut bytes cell library job written.drawn.at
 moved_out job library cell bytes thin w =
-    let meets_across = w.across.meets in
-    let meets_upwards = w.upwards.meets in
-    let drawable = drawables job.target job.target.grid w.at 0 (strips_of job)
+    let at = w.drawn.at in
+    let drawing = w.drawn.drawing in
+    let meets_across = w.drawn.across.meets in
+    let meets_upwards = w.drawn.upwards.meets in
+    let drawable = drawables job.target job.target.grid at 0 (strips_of job)
     (λ i h. thin.on_masks.masks i (record { below_count = h }))
-    (λ i h. subst (λ (k : ℕ). IsNonempty (drawn_area job.target.grid w.at k)) (from_zero i) (drawn_nonempty job w.at thin.target meets_across meets_upwards i (record { below_count = h }))) in
+    (λ i h. subst (λ (k : ℕ). IsNonempty (drawn_area job.target.grid at k)) (from_zero i) (drawn_nonempty job at thin.target meets_across meets_upwards i (record { below_count = h }))) in
     record {
+      cell = w.flat;
+      drawing = drawing;
+      bytes = w.exact;
       moved = w.library;
       stream = w.stream;
-      library_name = ap (λ (l : Library). l.name) w.one_cell.is_library ∙ w.drawing.in_library;
-      units = ap (λ (l : Library). l.units) w.one_cell.is_library ∙ w.drawing.units;
-      flat = subst (λ (name : List ℕ). IsFlatLayout job.target w.library name (drawing_of job w.at)) w.drawing.named
-          (drawn_layout job.target w.library w.flat (drawing_of job w.at) w.one_cell w.drawing.no_texts w.drawing.shapes drawable);
-      clean = drawings_keep job w.at thin.separate thin.source thin.target meets_across meets_upwards;
+      library_name = ap (λ (l : Library). l.name) w.one_cell.is_library ∙ drawing.in_library;
+      units = ap (λ (l : Library). l.units) w.one_cell.is_library ∙ drawing.units;
+      flat = subst (λ (name : List ℕ). IsWrittenAs job.target w.library name (drawing_of job at)) drawing.named
+          (drawn_layout job.target w.library w.flat (drawing_of job at) w.one_cell drawing.no_texts drawing.shapes drawable);
+      clean = drawings_keep job at thin.separate thin.source thin.target meets_across meets_upwards;
     }
 
 -- the layout of a thin source
@@ -82,27 +92,28 @@ source_layout : (source target : Tech) (library : Library) (cell : List ℕ) (la
 source_layout source target library cell layout thin =
     record { flat = thin.flat; flattened = thin.flattened; no_labels = thin.thin.no_labels; rectangles = thin.rectangles }
 
--- the parts of a run make up the relation of the headline
-pub moved : (source stable ttable sizes out : List ℕ) (library : Library) (asked : Sizes) (s t : Tech) (layout : List Placed) (job : Job)
-    → Stream source library → AreFiles stable ttable sizes s t asked → IsThinLayout library asked.cell s t layout → BreaksNoRule s layout
-    → IsJobOf layout s t job → IsWrittenFor job library.name asked.cell out → Moved source stable ttable sizes out
-moved source stable ttable sizes out library asked s t layout job stream files laid sound is_job w = record {
-  asked = asked;
-  library = library;
-  job = job;
-  at = w.at;
-  from = record {
-    files = subst (λ (z : Tech). AreFiles stable ttable sizes z job.target asked) (sym is_job.source_is) (subst (λ (z : Tech). AreFiles stable ttable sizes s z asked) (sym is_job.target_is) files);
-    stream = stream;
-    layout = layout;
-    drawn = subst (λ (z : Tech). IsSourceLayout z library asked.cell layout) (sym is_job.source_is) (source_layout s t library asked.cell layout laid);
-    sound = subst (λ (z : Tech). BreaksNoRule z layout) (sym is_job.source_is) sound;
-    strips = is_job.strips;
-  };
-  across = w.across;
-  upwards = w.upwards;
-  to = moved_out job library asked.cell out is_job.thin w;
-}
+-- the job of the files and what is written for it make up the relation of the headline
+moved : (source stable ttable sizes out : List ℕ) (library : Library) (asked : Sizes) (job : Job)
+    → IsJobOfFiles source stable ttable sizes library asked job → IsWrittenFor job library.name asked.cell out → Moved source stable ttable sizes out
+moved source stable ttable sizes out library asked job is w =
+    let cell = is.sound.cell in
+    record {
+      asked = asked;
+      library = library;
+      job = job;
+      at = w.drawn.at;
+      from = record {
+        files = is.files;
+        stream = is.sound.stream;
+        layout = cell.layout;
+        drawn = source_layout job.source job.target library asked.cell cell.layout cell.laid_out;
+        sound = cell.sound;
+        strips = cell.are_strips;
+      };
+      across = w.drawn.across;
+      upwards = w.drawn.upwards;
+      to = moved_out job library asked.cell out cell.thin w;
+    }
 
 -- each rectangle of a thin layout is on a mask of the source's table
 on_source : (s t : Tech) (library : Library) (cell : List ℕ) (layout : List Placed) → IsThinLayout library cell s t layout → (i : ℕ) → i < length layout
@@ -113,92 +124,97 @@ on_source s t library cell layout laid i h =
     let masks = laid.flattened.flat.masks in
     subst (λ (z : List Placed). mask_of z i < mask_count s) (sym laid.rectangles) (omega (arith, low, masks))
 
--- thin input that was read and laid out
-pub thin_case : (source stable ttable sizes : List ℕ) (library : Library) (asked : Sizes) (s t : Tech) (rectangles : List Strip)
-    → AreFiles stable ttable sizes s t asked → AreBuilt s asked → Stream source library → IsThinLayout library asked.cell s t (map placed rectangles)
-    → IsThinCase source stable ttable sizes library asked s t (map placed rectangles)
-thin_case source stable ttable sizes library asked s t rectangles files built stream laid = record {
-  files = files;
-  built = built;
-  stream = stream;
-  laid_out = laid;
-  source_valid = measured s (valid_table Source stable s files.tables.source_read);
-  target_valid = measured t (valid_table Target ttable t files.tables.target_read);
-  on_masks = record { masks = λ i h. on_source s t library asked.cell (map placed rectangles) laid i h.below_count };
-  few = subst (λ (z : List Placed). length z ≤ 120) (sym laid.rectangles) laid.thin.few;
+-- a thin layout is of rectangles on masks of the source's table
+pub on_masks : (s t : Tech) (library : Library) (cell : List ℕ) (layout : List Placed) → IsThinLayout library cell s t layout → AreOnMasksOf s layout
+on_masks s t library cell layout laid = record { masks = λ i h. on_source s t library cell layout laid i h.below_count }
+
+-- and of few
+few_rectangles : (s t : Tech) (library : Library) (cell : List ℕ) (layout : List Placed) → IsThinLayout library cell s t layout → length layout ≤ RECTANGLE_LIMIT
+few_rectangles s t library cell layout laid = subst (λ (z : List Placed). length z ≤ RECTANGLE_LIMIT) (sym laid.rectangles) laid.thin.few
+
+-- on masks of one of two tables of as many masks, so on masks of the other
+on_as_many : (s t : Tech) (layout : List Placed) → mask_count s ≡ mask_count t → AreOnMasksOf s layout → AreOnMasksOf t layout
+on_as_many s t layout same on = record { masks = λ i h. subst (λ (n : ℕ). mask_of layout i < n) same (on.masks i h) }
+
+-- the strips of a thin layout
+pub thin_strips : (s t : Tech) (library : Library) (cell : List ℕ) (rectangles strips : List Strip) → AreMatched s t → IsThinLayout library cell s t (map placed rectangles)
+    → AreSeparateStrips (map placed strips) → length strips ≡ length rectangles
+    → ((tech : Tech) → extent_side_by_side tech (map placed strips) ≡ extent_side_by_side tech (map placed rectangles))
+    → ((tech : Tech) → AreOnMasksOf tech (map placed rectangles) → AreOnMasksOf tech (map placed strips)) → AreThinStrips s t (map placed strips)
+thin_strips s t library cell rectangles strips tables laid apart count extent masks = record {
+  separate = apart;
+  few = subst (λ (n : ℕ). n ≤ RECTANGLE_LIMIT) (sym (length-map strips placed ∙ count ∙ sym (length-map rectangles placed))) (few_rectangles s t library cell (map placed rectangles) laid);
+  on_masks = masks t (on_as_many s t (map placed rectangles) tables.same_masks (on_masks s t library cell (map placed rectangles) laid));
+  source = tables.source;
+  target = tables.target;
+  side_by_side = subst (λ (n : ℤ). n ≤ℤ extent_limit) (sym (extent t))
+      (subst (λ (z : List Placed). extent_side_by_side t z ≤ℤ extent_limit) (sym laid.rectangles) laid.thin.thin.side_by_side);
 }
 
--- thin input, from its parts
+-- the tables of files are matched
+pub matched : (stable ttable sizes : List ℕ) (s t : Tech) (asked : Sizes) → AreFiles stable ttable sizes s t asked → AreMatched s t
+matched stable ttable sizes s t asked files = record {
+  source = measured s (valid_table Source stable s files.tables.source_read);
+  target = measured t (valid_table Target ttable t files.tables.target_read);
+  same_masks = same_mask_count s t files.tables.same_form;
+}
+
+-- what a stream holds can be drawn
+pub stream_is_drawable : (source : List ℕ) (library : Library) → Stream source library → AreDrawable library.structures
+stream_is_drawable source library stream = are_drawable library.structures (stream_is_lawful source library stream).structures
+
+-- a thin layout whose files are read is thin input
 abbrev thin_of : (source stable ttable sizes : List ℕ) (library : Library) (asked : Sizes) (s t : Tech) (layout : List Placed)
-    → IsThinCase source stable ttable sizes library asked s t layout → ThinInput source stable ttable sizes
-thin_of source stable ttable sizes library asked s t layout thin =
-    record { source_table = s; target_table = t; asked = asked; library = library; layout = layout; files = thin.files; built = thin.built; stream = thin.stream; laid_out = thin.laid_out }
+    → AreBuilt s asked → Stream source library → AreFiles stable ttable sizes s t asked → IsThinLayout library asked.cell s t layout → ThinInput source stable ttable sizes
+thin_of source stable ttable sizes library asked s t layout built stream files laid =
+    record { source_table = s; target_table = t; asked = asked; library = library; layout = layout; files = files; built = built; stream = stream; laid_out = laid }
 
--- a refusal to flatten is a refusal of the files
-pub fault_of_flat : (source stable ttable sizes : List ℕ) (library : Library) (asked : Sizes) (s t : Tech) → AreFiles stable ttable sizes s t asked → AreBuilt s asked
-    → Stream source library → (fault : Fault) → IsFlatFaultOf library.structures asked.cell s fault → IsFaultOf source stable ttable sizes fault
-fault_of_flat source stable ttable sizes library asked s t files built stream (Unflattened error) h =
-    record { source_table = s; target_table = t; asked = asked; library = library; files = files; built = built; stream = stream; refused = h }
-fault_of_flat source stable ttable sizes library asked s t files built stream (TableToml which) h = absurd h
-fault_of_flat source stable ttable sizes library asked s t files built stream (BadTable which key cause) h = absurd h
-fault_of_flat source stable ttable sizes library asked s t files built stream (TablesDiffer key) h = absurd h
-fault_of_flat source stable ttable sizes library asked s t files built stream SizesToml h = absurd h
-fault_of_flat source stable ttable sizes library asked s t files built stream (BadSizes key cause) h = absurd h
-fault_of_flat source stable ttable sizes library asked s t files built stream NotBuilt h = absurd h
-fault_of_flat source stable ttable sizes library asked s t files built stream (BadStream offset cause) h = absurd h
-fault_of_flat source stable ttable sizes library asked s t files built stream (SourceRule rule mask p q found needed) h = absurd h
-fault_of_flat source stable ttable sizes library asked s t files built stream OutOfMemory h = absurd h
-
--- a refusal of the layout is a refusal of the files
-pub fault_of_rules : (source stable ttable sizes : List ℕ) (library : Library) (asked : Sizes) (s t : Tech) (rectangles seen : List Strip)
-    → IsThinCase source stable ttable sizes library asked s t (map placed rectangles)
-    → seen ≡ rectangles → (fault : Fault) → IsSourceFaultOf s (map placed seen) fault → IsFaultOf source stable ttable sizes fault
-fault_of_rules source stable ttable sizes library asked s t rectangles seen thin same (SourceRule rule mask p q found needed) h = record {
-  thin = thin_of source stable ttable sizes library asked s t (map placed rectangles) thin;
+-- a refusal of a thin layout's rules is a refusal of the files
+pub fault_of_rules : (library : Library) (s t : Tech) (asked : Sizes) (rectangles seen : List Strip) → IsThinLayout library asked.cell s t (map placed rectangles)
+    → seen ≡ rectangles → (fault : Fault) → IsSourceFaultOf s (map placed seen) fault → IsFaultOfCell library s t asked fault
+fault_of_rules library s t asked rectangles seen laid same (SourceRule rule mask p q found needed) h source built stream stable ttable sizes files = record {
+  thin = thin_of source stable ttable sizes library asked s t (map placed rectangles) built stream files laid;
   broken = subst (λ (strips : List Strip). IsFirstBreach s (map placed strips) rule p q found needed) same h.0;
   named = h.1;
 }
-fault_of_rules source stable ttable sizes library asked s t rectangles seen thin same OutOfMemory h = tt
-fault_of_rules source stable ttable sizes library asked s t rectangles seen thin same (TableToml which) h = absurd h
-fault_of_rules source stable ttable sizes library asked s t rectangles seen thin same (BadTable which key cause) h = absurd h
-fault_of_rules source stable ttable sizes library asked s t rectangles seen thin same (TablesDiffer key) h = absurd h
-fault_of_rules source stable ttable sizes library asked s t rectangles seen thin same SizesToml h = absurd h
-fault_of_rules source stable ttable sizes library asked s t rectangles seen thin same (BadSizes key cause) h = absurd h
-fault_of_rules source stable ttable sizes library asked s t rectangles seen thin same NotBuilt h = absurd h
-fault_of_rules source stable ttable sizes library asked s t rectangles seen thin same (BadStream offset cause) h = absurd h
-fault_of_rules source stable ttable sizes library asked s t rectangles seen thin same (Unflattened error) h = absurd h
+fault_of_rules library s t asked rectangles seen laid same OutOfMemory h source built stream stable ttable sizes files = tt
+fault_of_rules library s t asked rectangles seen laid same (TableToml which) h source built stream stable ttable sizes files = absurd h
+fault_of_rules library s t asked rectangles seen laid same (BadTable which key cause) h source built stream stable ttable sizes files = absurd h
+fault_of_rules library s t asked rectangles seen laid same (TablesDiffer key) h source built stream stable ttable sizes files = absurd h
+fault_of_rules library s t asked rectangles seen laid same SizesToml h source built stream stable ttable sizes files = absurd h
+fault_of_rules library s t asked rectangles seen laid same (BadSizes key cause) h source built stream stable ttable sizes files = absurd h
+fault_of_rules library s t asked rectangles seen laid same NotBuilt h source built stream stable ttable sizes files = absurd h
+fault_of_rules library s t asked rectangles seen laid same (BadStream offset cause) h source built stream stable ttable sizes files = absurd h
+fault_of_rules library s t asked rectangles seen laid same (Unflattened error) h source built stream stable ttable sizes files = absurd h
 
--- a refusal of stray sizes is a refusal of the files
-pub fault_of_strays : (source stable ttable sizes : List ℕ) (library : Library) (asked : Sizes) (s t : Tech) (rectangles seen : List Strip)
-    → IsThinCase source stable ttable sizes library asked s t (map placed rectangles)
-    → seen ≡ rectangles → BreaksNoRule s (map placed seen) → (fault : Fault) → IsStrayFaultOf asked fault → IsFaultOf source stable ttable sizes fault
-fault_of_strays source stable ttable sizes library asked s t rectangles seen thin same kept (BadSizes key cause) h = inr (record {
-  thin = thin_of source stable ttable sizes library asked s t (map placed rectangles) thin;
+-- a refusal of stray sizes is a refusal of the files, where the layout breaks no rule
+pub fault_of_strays : (library : Library) (s t : Tech) (asked : Sizes) (rectangles seen : List Strip) → IsThinLayout library asked.cell s t (map placed rectangles)
+    → seen ≡ rectangles → BreaksNoRule s (map placed seen) → (fault : Fault) → IsStrayFaultOf asked fault → IsFaultOfCell library s t asked fault
+fault_of_strays library s t asked rectangles seen laid same kept (BadSizes key cause) h source built stream stable ttable sizes files = inr (record {
+  thin = thin_of source stable ttable sizes library asked s t (map placed rectangles) built stream files laid;
   sound = subst (λ (strips : List Strip). BreaksNoRule s (map placed strips)) same kept;
   refused = h;
 })
-fault_of_strays source stable ttable sizes library asked s t rectangles seen thin same kept OutOfMemory h = tt
-fault_of_strays source stable ttable sizes library asked s t rectangles seen thin same kept (TableToml which) h = absurd h
-fault_of_strays source stable ttable sizes library asked s t rectangles seen thin same kept (BadTable which key cause) h = absurd h
-fault_of_strays source stable ttable sizes library asked s t rectangles seen thin same kept (TablesDiffer key) h = absurd h
-fault_of_strays source stable ttable sizes library asked s t rectangles seen thin same kept SizesToml h = absurd h
-fault_of_strays source stable ttable sizes library asked s t rectangles seen thin same kept NotBuilt h = absurd h
-fault_of_strays source stable ttable sizes library asked s t rectangles seen thin same kept (BadStream offset cause) h = absurd h
-fault_of_strays source stable ttable sizes library asked s t rectangles seen thin same kept (Unflattened error) h = absurd h
-fault_of_strays source stable ttable sizes library asked s t rectangles seen thin same kept (SourceRule rule mask p q found needed) h = absurd h
+fault_of_strays library s t asked rectangles seen laid same kept OutOfMemory h source built stream stable ttable sizes files = tt
+fault_of_strays library s t asked rectangles seen laid same kept (TableToml which) h source built stream stable ttable sizes files = absurd h
+fault_of_strays library s t asked rectangles seen laid same kept (BadTable which key cause) h source built stream stable ttable sizes files = absurd h
+fault_of_strays library s t asked rectangles seen laid same kept (TablesDiffer key) h source built stream stable ttable sizes files = absurd h
+fault_of_strays library s t asked rectangles seen laid same kept SizesToml h source built stream stable ttable sizes files = absurd h
+fault_of_strays library s t asked rectangles seen laid same kept NotBuilt h source built stream stable ttable sizes files = absurd h
+fault_of_strays library s t asked rectangles seen laid same kept (BadStream offset cause) h source built stream stable ttable sizes files = absurd h
+fault_of_strays library s t asked rectangles seen laid same kept (Unflattened error) h source built stream stable ttable sizes files = absurd h
+fault_of_strays library s t asked rectangles seen laid same kept (SourceRule rule mask p q found needed) h source built stream stable ttable sizes files = absurd h
 
--- the parts of a run that ends well
-pub done : (source stable ttable sizes out bytes : List ℕ) (library : Library) (asked : Sizes) (s t : Tech) (rectangles seen : List Strip) (job : Job)
-    → IsThinCase source stable ttable sizes library asked s t (map placed rectangles) → seen ≡ rectangles → BreaksNoRule s (map placed seen)
-    → wishes_fault asked [] ≡ None
-    → IsJobOf (map placed rectangles) s t job → IsWrittenFor job library.name asked.cell bytes → out ≡ bytes → IsDone source stable ttable sizes out
-done source stable ttable sizes out bytes library asked s t rectangles seen job thin same kept none is_job w is =
-    let sound = subst (λ (strips : List Strip). BreaksNoRule s (map placed strips)) same kept in
+-- a run that ends well
+pub done : (source stable ttable sizes out bytes : List ℕ) (library : Library) (asked : Sizes) (job : Job)
+    → IsJobOfFiles source stable ttable sizes library asked job → IsWrittenFor job library.name asked.cell bytes → out ≡ bytes → IsDone source stable ttable sizes out
+done source stable ttable sizes out bytes library asked job is w same =
+    let cell = is.sound.cell in
     record {
-      thin = thin_of source stable ttable sizes library asked s t (map placed rectangles) thin;
-      sound = sound;
-      no_strays = none;
-      moved = subst (Moved source stable ttable sizes) (sym is) (moved source stable ttable sizes bytes library asked s t (map placed rectangles) job thin.stream thin.files thin.laid_out sound is_job w);
+      thin = thin_of source stable ttable sizes library asked job.source job.target cell.layout is.sound.built is.sound.stream is.files cell.laid_out;
+      sound = cell.sound;
+      no_strays = cell.no_strays;
+      moved = subst (Moved source stable ttable sizes) (sym same) (moved source stable ttable sizes bytes library asked job is w);
     }
 
 -- the library's name fits a record

@@ -1,11 +1,10 @@
 -- The cell of a library that is flattened, and its elements.
-use Rattle.std.proofs.Common.{◌≡◌, ℕ, ◌<◌, ◌≤◌, ◌-◌, List, [], ◌∷◌, ◌++◌, length, take, drop, Some, None, Option, Bool, true, false, cond, zero, suc, refl, ap, ◌∙◌, sym, subst, arith}
+use Rattle.std.proofs.Common.{◌≡◌, ℕ, ◌<◌, ◌≤◌, ◌-◌, List, [], ◌∷◌, length, drop, Some, Option, Bool, true, false, cond, zero, suc, refl, ap, ◌∙◌, sym, subst, arith}
 use Rattle.std.specs.Prelude.{All, slice_get}
 use Rattle.std.proofs.lemmas.Slice.Eq.{bytes_eq-Decides}
 use Rattle.rt_base.specs.declared.plane.Point.{Point}
 use Rattle.gds_stream.specs.declared.library.Element.{Element}
 use Rattle.gds_stream.specs.declared.library.Element.TheVariants.{Boundary, Path, Sref, Aref, Label, BoxShape}
-use Rattle.gds_stream.specs.declared.library.Library.{Library}
 use Rattle.gds_stream.specs.declared.library.Structure.{Structure}
 use Rattle.gds_lawful.specs.Lawful.{IsPolygon, HasPoints, IsLawfulStructure}
 use Rattle.gds_slabs.specs.Polygon.{IsClosed}

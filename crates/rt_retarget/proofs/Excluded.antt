@@ -11,16 +11,14 @@ use Rattle.rt_base.specs.declared.plane.Cell.{Cell}
 use Rattle.rt_tech.specs.declared.rules.RuleName.{RuleName}
 use Rattle.rt_tech.specs.declared.table.TableCause.{TableCause}
 use Rattle.rt_tech.specs.declared.table.Tech.{Tech}
-use Rattle.rt_tech.specs.declared.table.Which.TheVariants.{Source}
 use Rattle.rt_keys.specs.declared.error.TableError.TheVariants.{BadSizes}
 use Rattle.rt_tech.specs.declared.sizes.Sizes.{Sizes}
 use Rattle.rt_sizes.specs.Refusals.{RefusesSizes}
 use Rattle.rt_sizes.specs.Wishes.{wishes_fault}
-use Rattle.rt_tech.proofs.Measured.{measured}
-use Rattle.rt_tables.proofs.Valid.{valid_table}
 use Rattle.rt_template.specs.Strips.{Placed}
 use Rattle.rt_template.specs.Rules.{BreaksNoRule}
 use Rattle.rt_drc.proofs.Kept.{first_breach_breaks_rule}
+use Rattle.rt_retarget.specs.declared.layout.TheConstants.{RECTANGLE_LIMIT}
 use Rattle.rt_retarget.specs.Layout.{rectangles_in}
 use Rattle.rt_retarget.specs.Thin.{AreBuilt, AreThin, IsThin, ThinInput}
 use Rattle.rt_retarget.specs.Answers.{IsUnsound}
@@ -56,7 +54,7 @@ thin_too s s' f g e alike thin =
     let rectangles = same_rectangles f g alike.masks alike.rectangles in
     record {
       no_labels = sym alike.labels ∙ thin.no_labels;
-      few = subst (λ (z : List Placed). length z ≤ 120) rectangles thin.few;
+      few = subst (λ (z : List Placed). length z ≤ RECTANGLE_LIMIT) rectangles thin.few;
       thin = subst (λ (z : Tech). AreThin z (rectangles_in g)) e (subst (AreThin s) rectangles thin.thin);
     }
 
@@ -106,17 +104,17 @@ no_stream_alone source stable ttable sizes offset cause is (inr (inl more)) =
 no_stream_alone source stable ttable sizes offset cause is (inr (inr none)) = nowhere source none.library offset cause none.stream is.stops
 
 pub unflattened_alone : UnflattenedIsAlone
-unflattened_alone source stable ttable sizes error offset cause is other (inl thin) =
+unflattened_alone source stable ttable sizes error offset cause is (inl thin) =
     let same = one_reading stable ttable sizes _ _ _ _ _ _ thin.files is.files in
     let flat = flattened_too is.library thin.library is.asked.cell thin.asked.cell is.source_table thin.source_table thin.laid_out.flat
     (one_library source thin.library is.library thin.stream is.stream) (ap (λ (z : Sizes). z.cell) same.sizes) same.source thin.laid_out.flattened in
-    flattened_not_refused is.library.structures is.asked.cell is.source_table thin.laid_out.flat error flat is.refused other
-unflattened_alone source stable ttable sizes error offset cause is other (inr (inl (inl more))) =
+    flattened_not_refused is.library.structures is.asked.cell is.source_table thin.laid_out.flat error flat is.refused is.no_want
+unflattened_alone source stable ttable sizes error offset cause is (inr (inl (inl more))) =
     let same = one_reading stable ttable sizes _ _ _ _ _ _ is.files more.files in
     more.more (same_built is.source_table more.source_table is.asked more.asked same.source same.sizes is.built)
-unflattened_alone source stable ttable sizes error offset cause is other (inr (inl (inr none))) =
+unflattened_alone source stable ttable sizes error offset cause is (inr (inl (inr none))) =
     let same = one_reading stable ttable sizes _ _ _ _ _ _ none.files is.files in
     let flat = flattened_too is.library none.library is.asked.cell none.asked.cell is.source_table none.source_table none.flat
     (one_library source none.library is.library none.stream is.stream) (ap (λ (z : Sizes). z.cell) same.sizes) same.source none.flattened in
-    flattened_not_refused is.library.structures is.asked.cell is.source_table none.flat error flat is.refused other
-unflattened_alone source stable ttable sizes error offset cause is other (inr (inr none)) = nowhere source is.library offset cause is.stream none.stops
+    flattened_not_refused is.library.structures is.asked.cell is.source_table none.flat error flat is.refused is.no_want
+unflattened_alone source stable ttable sizes error offset cause is (inr (inr none)) = nowhere source is.library offset cause is.stream none.stops

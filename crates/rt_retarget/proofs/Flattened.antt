@@ -16,7 +16,7 @@ use Rattle.rt_rows.specs.declared.row.Var.{Var}
 use Rattle.rt_template.specs.Strips.{Placed, mask_of}
 use Rattle.rt_template.specs.Drawing.{drawn_area, drawn_from}
 use Rattle.rt_carry.specs.Shapes.{shape_of, layer_of_mask, datatype_of_mask}
-use Rattle.rt_retarget.specs.Layout.{IsMaskOfPair, IsItem, IsFlatLayout}
+use Rattle.rt_retarget.specs.Layout.{IsMaskOfPair, IsPolygonOf, IsWrittenAs}
 
 no_labels : (labels : List Element) (texts : List Note) → texts ≡ [] → AllZip IsLabelOf labels texts → labels ≡ []
 no_labels [] texts e a = refl
@@ -28,19 +28,19 @@ append_none xs ys e = rw (e, append-nil xs) refl
 
 -- the layout of a cell of shapes alone
 pub flat_layout : (tech : Tech) (library : Library) (cell : Flat) (layout : List Placed) → OneCell library cell → cell.texts ≡ []
-    → ((elements : List Element) → AllZip IsMadeOf elements cell.shapes → AllZip (IsItem tech) elements layout)
-    → IsFlatLayout tech library cell.name layout
-flat_layout tech library cell layout one none items = record {
+    → ((elements : List Element) → AllZip IsMadeOf elements cell.shapes → AllZip (IsPolygonOf tech) elements layout)
+    → IsWrittenAs tech library cell.name layout
+flat_layout tech library cell layout one none polygons = record {
   elements = one.drawn;
   one_structure = ap (λ (l : Library). l.structures) one.is_library
       ∙ ap (λ (elements : List Element). record { name = cell.name; elements = elements } ∷ []) (append_none one.drawn one.labels (no_labels one.labels cell.texts none one.are_texts));
-  items = items one.drawn one.are_shapes;
+  polygons = polygons one.drawn one.are_shapes;
 }
 
 -- a rectangle on a mask of the table, with a cell
-pub record IsDrawable (tech : Tech) (item : Placed) : Type 0 where
-  pub there : item.mask < mask_count tech
-  pub nonempty : IsNonempty item.area
+pub record IsDrawable (tech : Tech) (rectangle : Placed) : Type 0 where
+  pub there : rectangle.mask < mask_count tech
+  pub nonempty : IsNonempty rectangle.area
 
 there_is_some : (masks : List Mask) (m : ℕ) → m < length masks → slice_get masks m ≡ None → ⊥
 there_is_some [] m h e = absurd (omega arith)
@@ -54,28 +54,28 @@ pair_there tech m h = found (mask_at tech m) refl
     found (Some mask) e = record { mask = mask; is_mask = e; pair = rw e refl }
     found None e = absurd (there_is_some tech.masks m h e)
 
-drawn_item : (tech : Tech) (element : Element) (item : Placed) → IsMadeOf element (shape_of tech item) → IsDrawable tech item → IsItem tech element item
-drawn_item tech element item made is = record {
+drawn_polygon : (tech : Tech) (element : Element) (rectangle : Placed) → IsMadeOf element (shape_of tech rectangle) → IsDrawable tech rectangle → IsPolygonOf tech element rectangle
+drawn_polygon tech element rectangle made is = record {
   offset = made.0;
-  layer = layer_of_mask (mask_at tech item.mask);
-  datatype = datatype_of_mask (mask_at tech item.mask);
+  layer = layer_of_mask (mask_at tech rectangle.mask);
+  datatype = datatype_of_mask (mask_at tech rectangle.mask);
   is_polygon = made.1;
-  on_mask = pair_there tech item.mask is.there;
+  on_mask = pair_there tech rectangle.mask is.there;
   nonempty = is.nonempty;
 }
 
-drawn_items : (tech : Tech) (elements : List Element) (drawing : List Placed) → AllZip IsMadeOf elements (map (shape_of tech) drawing) → AllByRecursion (IsDrawable tech) drawing → AllZip (IsItem tech) elements drawing
-drawn_items tech [] [] a b = tt
-drawn_items tech [] (p ∷ drawing) a b = absurd a
-drawn_items tech (e ∷ elements) [] a b = absurd a
-drawn_items tech (e ∷ elements) (p ∷ drawing) a b = (drawn_item tech e p a.0 b.0, drawn_items tech elements drawing a.1 b.1)
+drawn_polygons : (tech : Tech) (elements : List Element) (drawing : List Placed) → AllZip IsMadeOf elements (map (shape_of tech) drawing) → AllByRecursion (IsDrawable tech) drawing → AllZip (IsPolygonOf tech) elements drawing
+drawn_polygons tech [] [] a b = tt
+drawn_polygons tech [] (p ∷ drawing) a b = absurd a
+drawn_polygons tech (e ∷ elements) [] a b = absurd a
+drawn_polygons tech (e ∷ elements) (p ∷ drawing) a b = (drawn_polygon tech e p a.0 b.0, drawn_polygons tech elements drawing a.1 b.1)
 
 -- the layout of a drawing
 pub drawn_layout : (tech : Tech) (library : Library) (cell : Flat) (drawing : List Placed) → OneCell library cell → cell.texts ≡ []
-    → cell.shapes ≡ map (shape_of tech) drawing → AllByRecursion (IsDrawable tech) drawing → IsFlatLayout tech library cell.name drawing
+    → cell.shapes ≡ map (shape_of tech) drawing → AllByRecursion (IsDrawable tech) drawing → IsWrittenAs tech library cell.name drawing
 drawn_layout tech library cell drawing one none shapes all =
     flat_layout tech library cell drawing one none
-    (λ elements made. drawn_items tech elements drawing (subst (AllZip IsMadeOf elements) shapes made) all)
+    (λ elements made. drawn_polygons tech elements drawing (subst (AllZip IsMadeOf elements) shapes made) all)
 
 -- each rectangle of a drawing can be drawn, where its mask is there and its area has a cell
 pub drawables : (tech : Tech) (grid : ℤ) (at : Var → ℤ) (n : ℕ) (strips : List Placed)

@@ -1,5 +1,5 @@
 -- The rectangles of a flat layout, mask by mask.
-use Rattle.std.proofs.Common.{◌≡◌, ℕ, suc, zero, ◌+◌, ◌<◌, ◌≤◌, List, [], ◌∷◌, ◌++◌, length, map, take, drop, get_or, ap, ◌∙◌, sym, subst, arith, refl}
+use Rattle.std.proofs.Common.{◌≡◌, ℕ, suc, ◌+◌, ◌<◌, ◌≤◌, List, [], ◌∷◌, ◌++◌, length, map, take, drop, get_or, ap, ◌∙◌, sym, subst, arith, refl}
 use Rattle.std.specs.Prelude.{All, slice_index_or}
 use Rattle.std.proofs.lemmas.List.{length-map, length-append, append-nil, append_assoc, take_more, take_all, map-append}
 use Rattle.std.proofs.Math.Seq.{drop-cons}
@@ -105,9 +105,9 @@ pub all_rects : (m : ℕ) (rects : List Rect) (i : ℕ) (old items : List Strip)
     → map placed items ≡ map placed old ++ placed_on m rects
 all_rects m rects i old items over pushed = subst (λ (z : List Rect). map placed items ≡ map placed old ++ placed_on m z) (take_all i rects over) pushed
 
-pub pushed_few : (m : ℕ) (rects : List Rect) (old items : List Strip) → map placed items ≡ map placed old ++ placed_on m rects → length old + length rects ≤ 120
-    → length items ≤ 120
-pushed_few m rects old items all few =
+pub pushed_few : (m : ℕ) (rects : List Rect) (old items : List Strip) → map placed items ≡ map placed old ++ placed_on m rects → (most : ℕ) → length old + length rects ≤ most
+    → length items ≤ most
+pushed_few m rects old items all most few =
     let a : length (map placed items) ≡ length items = length-map items placed in
     let b : length (map placed old) ≡ length old = length-map old placed in
     let c : length (placed_on m rects) ≡ length rects = length-map rects (λ r. record { mask = m; area = area r }) in

@@ -2,18 +2,15 @@
 use Rattle.std.proofs.Common.{◌≡◌, ℕ, List, subst, sym, ap, ◌∙◌}
 use Rattle.rt_tech.specs.declared.table.Tech.{Tech}
 use Rattle.rt_tech.specs.declared.table.Which.TheVariants.{Source, Target}
-use Rattle.toml.specs.Data.{Members}
 use Rattle.rt_tech.specs.declared.sizes.Sizes.{Sizes}
-use Rattle.rt_keys.specs.Document.{IsDocument}
 use Rattle.rt_sizes.specs.SizesFile.{DescribesSizes, sizes_of}
 use Rattle.rt_tables.proofs.Valid.{same_table}
 use Rattle.rt_retarget.specs.Thin.{AreFiles}
 
-same_document : (bytes : List ℕ) (a b : Members) → IsDocument bytes a → IsDocument bytes b → a ≡ b
-same_document bytes a b x y = cc
-
 pub same_sizes : (target : Tech) (bytes : List ℕ) (a b : Sizes) → DescribesSizes target bytes a → DescribesSizes target bytes b → a ≡ b
-same_sizes target bytes a b x y = x.told ∙ ap (sizes_of target) (same_document bytes x.file y.file x.document y.document) ∙ sym y.told
+same_sizes target bytes a b x y =
+    let file : x.file ≡ y.file = cc (x.document.reads, y.document.reads) in
+    x.told ∙ ap (sizes_of target) file ∙ sym y.told
 
 -- the tables and the sizes are the same
 pub record AreSameFiles (s t : Tech) (asked : Sizes) (s' t' : Tech) (asked' : Sizes) : Type 0 where

@@ -1,11 +1,12 @@
 -- What each answer of a retargeting means, of the bytes of the four files.
-use Rattle.std.specs.Prelude.{◌≡◌, ℕ, ℤ, ◌⊎◌, List, [], Some, None, slice_get}
+use Rattle.std.specs.Prelude.{◌≡◌, ◌≢◌, ℕ, ℤ, ◌⊎◌, List, [], Some, None, slice_get}
 use Rattle.rt_base.specs.declared.plane.Cell.{Cell}
 use Rattle.gds_grammar.specs.declared.cause.Cause.{Cause}
 use Rattle.gds_grammar.specs.Stops.{Stops}
 use Rattle.gds_stream.specs.declared.library.Library.{Library}
 use Rattle.gds_stream.specs.Contents.{Stream}
 use Rattle.gds_flat.specs.declared.error.FlatError.{FlatError}
+use Rattle.gds_flat.specs.declared.error.FlatError.TheVariants as flat_error
 use Rattle.gds_flat.specs.Refused.{IsFlattened, FlatRefused}
 use Rattle.rt_layout.specs.declared.layout.Layout.{Layout as FlatLayout}
 use Rattle.toml.specs.Data.{Members}
@@ -24,7 +25,6 @@ use Rattle.rt_tables.specs.Forms.{AreParted}
 use Rattle.rt_sizes.specs.Refusals.{RefusesSizes}
 use Rattle.rt_sizes.specs.SizesFile.{IsFaultySizes}
 use Rattle.rt_sizes.specs.Wishes.{wishes_fault}
-use Rattle.rt_template.specs.Strips.{Placed}
 use Rattle.rt_template.specs.Rules.{BreaksNoRule, IsFirstBreach}
 use Rattle.rt_retarget.specs.declared.answer.Outcome.{Outcome}
 use Rattle.rt_retarget.specs.declared.answer.Outcome.TheVariants.{Done}
@@ -90,7 +90,8 @@ pub record IsNoStream (source stable ttable sizes : List ℕ) (offset : ℕ) (ca
   pub built : AreBuilt source_table asked
   pub stops : Stops source offset cause
 
--- the same, and the source is a stream, but the library's cell isn't flattened by the source's table, for this reason
+-- the same, and the source is a stream, but the library's cell isn't flattened by the source's table, for this reason, which isn't
+-- want of memory
 pub record IsNotFlattened (source stable ttable sizes : List ℕ) (error : FlatError) : Type 0 where
   pub source_table : Tech
   pub target_table : Tech
@@ -100,6 +101,7 @@ pub record IsNotFlattened (source stable ttable sizes : List ℕ) (error : FlatE
   pub built : AreBuilt source_table asked
   pub stream : Stream source library
   pub refused : FlatRefused library.structures asked.cell source_table error
+  pub no_want : error ≢ flat_error.OutOfMemory
 
 -- the same, and the cell is flattened, but the flat layout isn't thin
 pub record HasNoThinLayout (source stable ttable sizes : List ℕ) : Type 0 where

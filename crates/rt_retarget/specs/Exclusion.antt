@@ -1,11 +1,10 @@
 -- Which answers exclude each other.
-use Rattle.std.specs.Prelude.{◌≢◌, ℕ, ℤ, ◌⊎◌, List}
+use Rattle.std.specs.Prelude.{ℕ, ℤ, ◌⊎◌, List}
 use Rattle.rt_base.specs.declared.plane.Cell.{Cell}
 use Rattle.gds_grammar.specs.declared.cause.Cause.{Cause}
 use Rattle.rt_tech.specs.declared.rules.RuleName.{RuleName}
 use Rattle.rt_tech.specs.declared.table.TableCause.{TableCause}
 use Rattle.gds_flat.specs.declared.error.FlatError.{FlatError}
-use Rattle.gds_flat.specs.declared.error.FlatError.TheVariants.{OutOfMemory}
 use Rattle.rt_retarget.specs.Thin.{ThinInput}
 use Rattle.rt_retarget.specs.Answers.{IsDone, IsUnsound, HasStraySizes, IsNoStream, IsNotFlattened, IsNotBuilt}
 
@@ -27,10 +26,10 @@ abbrev pub NoStreamIsAlone : Type 0
 NoStreamIsAlone = (source stable ttable sizes : List ℕ) (offset : ℕ) (cause : Cause)
     → IsNoStream source stable ttable sizes offset cause → ThinInput source stable ttable sizes ⊎ IsNotBuilt source stable ttable sizes → ⊥
 
--- a cell that isn't flattened, but for want of memory, is neither thin input nor not built, and its source is a stream
+-- a cell that isn't flattened is neither thin input nor not built, and its source is a stream
 abbrev pub UnflattenedIsAlone : Type 0
 UnflattenedIsAlone = (source stable ttable sizes : List ℕ) (error : FlatError) (offset : ℕ) (cause : Cause)
-    → IsNotFlattened source stable ttable sizes error → error ≢ OutOfMemory
+    → IsNotFlattened source stable ttable sizes error
     → ThinInput source stable ttable sizes ⊎ IsNotBuilt source stable ttable sizes ⊎ IsNoStream source stable ttable sizes offset cause → ⊥
 
 -- files whose sizes are refused as stray break no rule

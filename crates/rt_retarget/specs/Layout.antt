@@ -37,13 +37,13 @@ corners_of r =
 
 -- the element is a polygon round that rectangle, from its lower left corner counterclockwise,
 -- on the layer and with the data type of its mask
-pub record IsItem (tech : Tech) (element : Element) (item : Placed) : Type 0 where
+pub record IsPolygonOf (tech : Tech) (element : Element) (rectangle : Placed) : Type 0 where
   pub offset : ℕ
   pub layer : ℤ
   pub datatype : ℤ
-  pub is_polygon : element ≡ Boundary offset layer datatype (corners_of item.area)
-  pub on_mask : IsMaskOfPair tech layer datatype item.mask
-  pub nonempty : IsNonempty item.area
+  pub is_polygon : element ≡ Boundary offset layer datatype (corners_of rectangle.area)
+  pub on_mask : IsMaskOfPair tech layer datatype rectangle.mask
+  pub nonempty : IsNonempty rectangle.area
 
 -- the library is one structure of that name with these elements
 abbrev pub IsOneStructure : Library → List ℕ → List Element → Type 0
@@ -69,8 +69,8 @@ pub record IsSourceLayout (tech : Tech) (library : Library) (cell : List ℕ) (l
   pub no_labels : flat.labels ≡ []
   pub rectangles : layout ≡ rectangles_in flat
 
--- the library is one structure of that name, and its elements are the items of the layout, one by one, as the writer draws them
-pub record IsFlatLayout (tech : Tech) (library : Library) (cell : List ℕ) (layout : List Placed) : Type 0 where
+-- the library is one structure of that name, and its elements are polygons round the rectangles of the layout, one by one
+pub record IsWrittenAs (tech : Tech) (library : Library) (cell : List ℕ) (layout : List Placed) : Type 0 where
   pub elements : List Element
   pub one_structure : IsOneStructure library cell elements
-  pub items : AllZip (IsItem tech) elements layout
+  pub polygons : AllZip (IsPolygonOf tech) elements layout

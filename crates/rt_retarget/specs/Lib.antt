@@ -3,5 +3,5 @@ pub mod Thin
 pub mod Moved
 pub mod Answers
 pub mod Stages
-pub mod Making
+pub mod Jobs
 pub mod Exclusion

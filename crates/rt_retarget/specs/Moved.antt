@@ -1,7 +1,10 @@
 -- The relation of the headline: the written bytes are the source, moved to the target's rules, and least.
 use Rattle.std.specs.Prelude.{◌≡◌, ℕ, ℤ, List}
 use Rattle.gds_stream.specs.declared.library.Library.{Library}
+use Rattle.gds_stream.specs.declared.cell.Flat.{Flat}
 use Rattle.gds_stream.specs.Contents.{Stream}
+use Rattle.gds_stream.specs.Written.{written}
+use Rattle.rt_carry.specs.Shapes.{IsDrawingOf}
 use Rattle.rt_rows.specs.declared.row.Var.{Var}
 use Rattle.rt_tech.specs.declared.sizes.Sizes.{Sizes}
 use Rattle.rt_template.specs.declared.job.Job.{Job}
@@ -10,7 +13,7 @@ use Rattle.rt_template.specs.Across.{strips_of, IsLeastAcross}
 use Rattle.rt_template.specs.Upwards.{IsLeastUpwards}
 use Rattle.rt_template.specs.Drawing.{drawn, AreStripsOf}
 use Rattle.rt_template.specs.Rules.{BreaksNoRule, BreaksNoRuleOnGrid}
-use Rattle.rt_retarget.specs.Layout.{IsSourceLayout, IsFlatLayout}
+use Rattle.rt_retarget.specs.Layout.{IsSourceLayout, IsWrittenAs}
 use Rattle.rt_retarget.specs.Thin.{AreFiles}
 
 -- the strips of the job at the positions, in database units of the target
@@ -26,13 +29,17 @@ pub record IsMovedJob (source stable ttable sizes : List ℕ) (asked : Sizes) (l
   pub sound : BreaksNoRule job.source layout
   pub strips : AreStripsOf layout (strips_of job)
 
--- what is written: a stream whose layout is the drawing, rectangle by rectangle, and breaks no target rule
-pub record IsMovedOut (out cell : List ℕ) (library : Library) (job : Job) (at : Var → ℤ) : Type 0 where
+-- what is written: the bytes of the drawn cell, which are a stream whose layout is the drawing, rectangle by rectangle, and which
+-- breaks no target rule
+pub record IsMovedOut (out name : List ℕ) (library : Library) (job : Job) (at : Var → ℤ) : Type 0 where
+  pub cell : Flat
+  pub drawing : IsDrawingOf job at library.name name cell
+  pub bytes : out ≡ written cell
   pub moved : Library
   pub stream : Stream out moved
   pub library_name : moved.name ≡ library.name
   pub units : moved.units ≡ job.target.units
-  pub flat : IsFlatLayout job.target moved cell (drawing_of job at)
+  pub flat : IsWrittenAs job.target moved name (drawing_of job at)
   pub clean : BreaksNoRuleOnGrid job.target (drawing_of job at)
 
 -- the bytes of out are the source, moved: its strips at the least positions that meet both templates

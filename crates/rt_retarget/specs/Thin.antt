@@ -16,11 +16,17 @@ use Rattle.rt_sizes.specs.SizesFile.{DescribesSizes}
 use Rattle.rt_template.specs.Strips.{Placed}
 use Rattle.rt_template.specs.Across.{extent_limit}
 use Rattle.rt_template.specs.Separate.{AreSeparateStrips, extent_side_by_side}
+use Rattle.rt_retarget.specs.declared.layout.TheConstants.{RECTANGLE_LIMIT}
 use Rattle.rt_retarget.specs.Layout.{rectangles_in}
 
 -- the two files are rule tables of one form
 pub record AreTables (stable ttable : List ℕ) (source_table target_table : Tech) : Type 0 where
   pub source_read : IsTechOf Source stable source_table
+  pub target_read : IsTechOf Target ttable target_table
+  pub same_form : HaveSameForm source_table target_table
+
+-- the file is a target's rule table of the form of the source's
+pub record IsTargetOf (source_table : Tech) (ttable : List ℕ) (target_table : Tech) : Type 0 where
   pub target_read : IsTechOf Target ttable target_table
   pub same_form : HaveSameForm source_table target_table
 
@@ -39,10 +45,6 @@ pub record AreBuilt (source_table : Tech) (asked : Sizes) : Type 0 where
   pub no_aparts : source_table.aparts ≡ []
   pub no_mirror : asked.mirror ≡ mirror.None
 
--- the most rectangles of a cell
-abbrev pub rectangle_limit : ℕ
-rectangle_limit = 120
-
 -- no two rectangles of one mask touch, and side by side in one row, at the target's widths and spaces, all fit the greatest extent
 pub record AreThin (target_table : Tech) (layout : List Placed) : Type 0 where
   pub separate : AreSeparateStrips layout
@@ -51,7 +53,7 @@ pub record AreThin (target_table : Tech) (layout : List Placed) : Type 0 where
 -- a flat layout is thin: it has no labels, and its rectangles are few and thin
 pub record IsThin (target_table : Tech) (flat : FlatLayout) : Type 0 where
   pub no_labels : flat.labels ≡ []
-  pub few : length (rectangles_in flat) ≤ rectangle_limit
+  pub few : length (rectangles_in flat) ≤ RECTANGLE_LIMIT
   pub thin : AreThin target_table (rectangles_in flat)
 
 -- the cell of the library is flattened by the source's table to a thin layout, and these are its rectangles, mask by mask

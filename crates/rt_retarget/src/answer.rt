@@ -1,8 +1,7 @@
-ghost use Rattle.std.specs.Prelude.{◌≡◌};
-
+//! What a retargeting answers.
 use gds_flat::FlatError;
 use gds_stream::Cause;
-use rt_base::{Cell, List, OutOfMemory, Text};
+use rt_base::{Cell, List, Text};
 use rt_tech::{RuleName, TableCause, Which};
 use thiserror::Error;
 
@@ -24,13 +23,13 @@ pub enum Outcome {
 #[derive(Debug, Drop, Error)]
 pub enum Fault {
     /// A table isn't a TOML document.
-    #[error("a table isn't TOML: {which:?}")]
+    #[error("a table isn't TOML")]
     TableToml {
         /// Which table.
         which: Which,
     },
     /// A table isn't valid: the first key at fault, in the order of the formats, and the first cause at it.
-    #[error("a table isn't valid: {which:?}, {cause:?} at {key:?}")]
+    #[error("a table isn't valid")]
     BadTable {
         /// Which table.
         which: Which,
@@ -40,7 +39,7 @@ pub enum Fault {
         cause: TableCause,
     },
     /// The two tables don't say the same but for their numbers: the first key at which they differ.
-    #[error("the tables differ at {key:?}")]
+    #[error("the tables differ")]
     TablesDiffer {
         /// The path of the key.
         key: Text,
@@ -50,7 +49,7 @@ pub enum Fault {
     SizesToml,
     /// The sizes file isn't valid for the target's table, or has sizes for a device that the cell doesn't have: the
     /// first key at fault and the first cause at it.
-    #[error("the sizes file isn't valid: {cause:?} at {key:?}")]
+    #[error("the sizes file isn't valid")]
     BadSizes {
         /// The path of the key.
         key: Text,
@@ -61,7 +60,7 @@ pub enum Fault {
     #[error("not built")]
     NotBuilt,
     /// The source isn't a stream of the format.
-    #[error("the source is no stream: {cause}, at byte {offset}")]
+    #[error("the source is no stream")]
     BadStream {
         /// The place behind the longest list of whole records that begins a stream; behind a whole stream, that of the
         /// first byte that isn't 0.
@@ -70,8 +69,8 @@ pub enum Fault {
         cause: Cause,
     },
     /// The cell of the source isn't flattened: an element, a name, a circle, a depth, a layer, a step, a count or a coordinate
-    /// that isn't taken, or no memory for the flat layout.
-    #[error("the cell isn't flattened: {0}")]
+    /// that isn't taken. Never for want of memory, which is `OutOfMemory`.
+    #[error("the cell isn't flattened")]
     Unflattened(FlatError),
     /// The source breaks this rule of its own table, the first one that it breaks.
     #[error("the source breaks a rule")]
@@ -92,14 +91,4 @@ pub enum Fault {
     /// There was no memory for the work.
     #[error("out of memory")]
     OutOfMemory,
-}
-
-impl From<OutOfMemory> for Fault {
-    ghost use Rattle.rt_retarget.specs.declared.answer.Fault.TheVariants.{OutOfMemory as NoMemory};
-
-    ghost from_gives = { λ _ fault. fault ≡ NoMemory };
-
-    fn from(_error: OutOfMemory) -> Fault {
-        Fault::OutOfMemory
-    }
 }

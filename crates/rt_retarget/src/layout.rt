@@ -1,23 +1,22 @@
+//! The rectangles of a flat layout, as strips, where the layout is thin.
 ghost use Rattle.std.specs.Prelude.{◌≡◌, ◌+◌, ◌<◌, ◌≤◌, ◌≤ℤ◌, ◌++◌, length, map, IfOk, MatchOption, MatchBool};
 ghost use Rattle.rt_tech.specs.Tech.{IsMeasured};
 ghost use Rattle.rt_template.specs.Strips.{placed};
 ghost use Rattle.rt_template.specs.Across.{extent_limit};
 ghost use Rattle.rt_template.specs.Separate.{extent_side_by_side};
 ghost use Rattle.rt_retarget.specs.Layout.{rectangles_in, placed_on};
-ghost use Rattle.rt_retarget.specs.Thin.{rectangle_limit, IsThin, AreThin};
+ghost use Rattle.rt_retarget.specs.Thin.{IsThin, AreThin};
 
 use rt_base::{OutOfMemory, Rect};
 use rt_layout::Layout;
+use rt_rows::EXTENT_LIMIT;
 use rt_strips::are_separate;
 use rt_tech::{Tech, space_of, width_of};
 use rt_template::Strip;
 use std::alloc::Global;
 
-/// The most rectangles of a cell.
+/// The most rectangles of a cell that is moved. (This project's own.)
 pub const RECTANGLE_LIMIT: usize = 120;
-
-/// The most that an extent may be, in target steps.
-const EXTENT_LIMIT: i64 = 20_000_000;
 
 /// The rectangles of a flat layout as strips, mask by mask, or None where it isn't thin: where it has a label, too many
 /// rectangles, two of one mask that touch, or too many for the greatest extent side by side.
@@ -49,8 +48,8 @@ pub fn lay_out(
 fn strips_of(alloc: Global, flat: &Layout) -> Result<Option<Vec<Strip>>, OutOfMemory>
     requires { length flat.now.masks ≤ 64 }
     ensures { IfOk result (λ found. MatchOption found
-        (rectangle_limit < length (rectangles_in flat.now))
-        (λ strips. (map placed strips.items ≡ rectangles_in flat.now) × (length strips.items ≤ rectangle_limit))) }
+        (RECTANGLE_LIMIT < length (rectangles_in flat.now))
+        (λ strips. (map placed strips.items ≡ rectangles_in flat.now) × (length strips.items ≤ RECTANGLE_LIMIT))) }
 {
     let mut strips = Vec::new(alloc);
     for (mask, rects) in flat.masks.as_slice().iter().enumerate() {
@@ -63,10 +62,10 @@ fn strips_of(alloc: Global, flat: &Layout) -> Result<Option<Vec<Strip>>, OutOfMe
 
 // Appends the rectangles of a mask as strips, and tells whether all are few; else some may be missing.
 fn push_strips(strips: &mut Vec<Strip>, mask: u32, rects: &[Rect]) -> Result<bool, OutOfMemory>
-    requires { length strips.old.items ≤ rectangle_limit }
+    requires { length strips.old.items ≤ RECTANGLE_LIMIT }
     ensures { IfOk result (λ few. MatchBool few
-        ((map placed strips.new.items ≡ map placed strips.old.items ++ placed_on mask rects.now) × (length strips.new.items ≤ rectangle_limit))
-        (rectangle_limit < length strips.old.items + length rects.now)) }
+        ((map placed strips.new.items ≡ map placed strips.old.items ++ placed_on mask rects.now) × (length strips.new.items ≤ RECTANGLE_LIMIT))
+        (RECTANGLE_LIMIT < length strips.old.items + length rects.now)) }
 {
     if strips.len() + rects.len() > RECTANGLE_LIMIT {
         return Ok(false);
@@ -79,7 +78,7 @@ fn push_strips(strips: &mut Vec<Strip>, mask: u32, rects: &[Rect]) -> Result<boo
 
 // Whether no two of the strips touch, and all fit the greatest extent side by side.
 fn are_thin(strips: &[Strip], target: &Tech) -> bool
-    requires few { length strips.now ≤ 120 }
+    requires few { length strips.now ≤ RECTANGLE_LIMIT }
     requires target { IsMeasured target.now }
     ensures { MatchBool result (AreThin target.now (map placed strips.now)) (AreThin target.now (map placed strips.now) → ⊥) }
 {
@@ -91,7 +90,7 @@ fn are_thin(strips: &[Strip], target: &Tech) -> bool
 
 // Whether the strips fit the greatest extent side by side, at the target's widths and spaces.
 fn fit_side_by_side(strips: &[Strip], target: &Tech) -> bool
-    requires few { length strips.now ≤ 120 }
+    requires few { length strips.now ≤ RECTANGLE_LIMIT }
     requires target { IsMeasured target.now }
     ensures { MatchBool result (extent_side_by_side target.now (map placed strips.now) ≤ℤ extent_limit) (extent_side_by_side target.now (map placed strips.now) ≤ℤ extent_limit → ⊥) }
 {

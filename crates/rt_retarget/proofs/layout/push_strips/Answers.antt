@@ -1,4 +1,5 @@
-use Rattle.std.proofs.Common.{◌≡◌, ◌≤◌, ◌++◌, length, map, rules, arith, refl}
+use Rattle.std.proofs.Common.{◌≡◌, length, rules, arith, refl}
+use Rattle.rt_retarget.specs.declared.layout.TheConstants.{RECTANGLE_LIMIT}
 use Rattle.rt_retarget.proofs.Items.{no_rect_yet, one_rect_more, all_rects, pushed_few}
 use Rattle.rt_retarget.proofs.layout.push_strips.Goals as goal
 
@@ -16,4 +17,4 @@ returns c =
     let all = all_rects c.args.mask c.args.rects.now c.loop-rect.rect-index c.args.strips.now.items c.loop-rect.strips.items c.loop-rect-test.false c.loop-rect.invariant.pushed in
     let count : c.len.result ≡ length c.args.strips.now.items = search rules in
     let few = c.if-len-rects-gt-RECTANGLE_LIMIT.false in
-    (all, pushed_few c.args.mask c.args.rects.now c.args.strips.now.items c.loop-rect.strips.items all (omega (arith, count, few)))
+    (all, pushed_few c.args.mask c.args.rects.now c.args.strips.now.items c.loop-rect.strips.items all RECTANGLE_LIMIT (omega (arith, count, few)))

@@ -1,9 +1,8 @@
-use Rattle.std.proofs.Common.{◌≡◌, ◌+◌, ◌<◌, ◌≤◌, ◌++◌, length, map, rules, arith, List, get_or, subst, sym, ap, ◌∙◌}
+use Rattle.std.proofs.Common.{◌≡◌, ◌<◌, ◌≤◌, length, map, arith, List, get_or, subst}
 use Rattle.std.proofs.lemmas.List.{length-map}
 use Rattle.rt_base.specs.declared.plane.Rect.{Rect}
-use Rattle.rt_template.specs.declared.job.Strip.{Strip}
-use Rattle.rt_template.specs.Strips.{Placed, placed}
-use Rattle.rt_retarget.specs.Layout.{placed_on, placed_from}
+use Rattle.rt_template.specs.Strips.{placed}
+use Rattle.rt_retarget.specs.declared.layout.TheConstants.{RECTANGLE_LIMIT}
 use Rattle.rt_retarget.proofs.Items.{nothing_so_far, one_mask_more, no_mask_left, many_more}
 use Rattle.rt_retarget.proofs.layout.strips_of.Goals as goal
 
@@ -24,7 +23,7 @@ returns-then-not-branch c =
     subst (λ (z : List (List Rect)). c.rects-item.result ≡ get_or z c.loop-mask.mask c.rects-item.result) same c.rects-item.is in
     let many = rw (c.if-not-branch.true, c.as_slice.ensures) at c.in_ok-push_strips.ensures in
     let count : length (map placed c.loop-mask.strips.items) ≡ length c.loop-mask.strips.items = length-map c.loop-mask.strips.items placed in
-    many_more masks c.loop-mask.mask c.rects-item.result (map placed c.loop-mask.strips.items) 120 below here c.loop-mask.invariant.so_far (omega (arith, many, count))
+    many_more masks c.loop-mask.mask c.rects-item.result (map placed c.loop-mask.strips.items) RECTANGLE_LIMIT below here c.loop-mask.invariant.so_far (omega (arith, many, count))
 
 pub loop-mask-preserved : goal.loop-mask-preserved
 loop-mask-preserved c =

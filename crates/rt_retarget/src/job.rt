@@ -1,0 +1,73 @@
+//! The whole job, from the bytes of the four files to what is answered.
+ghost use Rattle.std.specs.Prelude.{◌≡◌, ◌<◌, ◌≤◌, [], length, IfOk, IfErr};
+ghost use Rattle.rt_retarget.specs.Answers.{IsOutcomeOf, IsFaultOf};
+ghost use Rattle.rt_retarget.specs.Jobs.{IsJobOfFiles};
+
+use crate::answer::{Fault, Outcome};
+use crate::inputs::read_inputs;
+use crate::output::stream_of;
+use crate::source::read_source;
+use gds_stream::Library;
+use rt_base::List;
+use rt_tech::Sizes;
+use rt_template::Job;
+use std::alloc::Global;
+
+// What is moved: the job, the library that its strips are from, and what is asked for.
+#[derive(Drop)]
+struct Work {
+    job: Job,
+    library: Library,
+    asked: Sizes,
+}
+
+/// Moves the cell of a source stream to the target's rules, at the least positions that keep its arrangement.
+///
+/// The four files are the source stream, its rule table, the target's rule table and the sizes file. They are looked at
+/// in this order, and the first that holds is answered: `TableToml` and `BadTable` of the source's table, then of the
+/// target's; `TablesDiffer`; `SizesToml` and `BadSizes`; `NotBuilt`, where a mask isn't metal, there is a distance between
+/// masks or a mirror is asked for; `BadStream`; `Unflattened`; `NotBuilt`, where the flat layout isn't thin; `SourceRule`;
+/// `BadSizes`, where there are sizes for a device. `OutOfMemory` comes only for want of memory, and want of memory is
+/// answered in no other form.
+pub fn retarget(
+    alloc: Global,
+    source: &[u8],
+    stable: &[u8],
+    ttable: &[u8],
+    sizes: &[u8],
+) -> Result<Outcome, Fault>
+    ensures done { IfOk result (IsOutcomeOf source.now stable.now ttable.now sizes.now) }
+    ensures refused { IfErr result (IsFaultOf source.now stable.now ttable.now sizes.now) }
+{
+    let work = read_work(alloc, source, stable, ttable, sizes)?;
+    let bytes = stream_of(alloc, &work.job, &work.library.name, &work.asked.cell)?;
+    Ok(Outcome::Done {
+        gds: List::of(bytes),
+        cert: List::new(alloc),
+        report: List::new(alloc),
+    })
+}
+
+// The job of the four files, or why they are refused.
+fn read_work(
+    alloc: Global,
+    source: &[u8],
+    stable: &[u8],
+    ttable: &[u8],
+    sizes: &[u8],
+) -> Result<Work, Fault>
+    ensures job { IfOk result (λ work. IsJobOfFiles source.now stable.now ttable.now sizes.now work.library work.asked work.job) }
+    ensures refused { IfErr result (IsFaultOf source.now stable.now ttable.now sizes.now) }
+{
+    let inputs = read_inputs(alloc, stable, ttable, sizes)?;
+    let found = read_source(alloc, source, &inputs)?;
+    Ok(Work {
+        job: Job {
+            strips: found.strips,
+            source: inputs.tables.source,
+            target: inputs.tables.target,
+        },
+        library: found.library,
+        asked: inputs.asked,
+    })
+}
