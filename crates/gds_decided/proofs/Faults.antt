@@ -1,5 +1,5 @@
 -- An element that is fine has no fault.
-use Rattle.std.proofs.Common.{◌≡◌, ℕ, ℤ, pos, ◌≤ℤ◌, ◌<ℤ◌, ◌≢◌, ◌⊎◌, inl, inr, List, Option, Some, None, IsSome, arith}
+use Rattle.std.proofs.Common.{◌≡◌, ℕ, ℤ, pos, ◌≤ℤ◌, ◌<ℤ◌, inl, inr, List, Option, Some, None, IsSome, arith}
 use Rattle.std.proofs.lemmas.Int.{ints}
 use Rattle.rt_base.specs.declared.plane.Point.{Point}
 use Rattle.rt_tech.specs.declared.table.Tech.{Tech}
@@ -8,9 +8,9 @@ use Rattle.gds_stream.specs.declared.library.Element.TheVariants.{Boundary, Path
 use Rattle.gds_stream.specs.declared.library.Place.{Place}
 use Rattle.gds_flat.specs.declared.error.Odd.{Odd}
 use Rattle.gds_flat.specs.declared.error.Odd.TheVariants.{PathType, PathWidth, BoxElement, Magnification, Angle, Absolute, Slanted}
-use Rattle.gds_flat.specs.declared.error.FlatError.{FlatError}
-use Rattle.gds_flat.specs.declared.error.FlatError.TheVariants.{Unsupported, NoSuchStructure, Cyclic, UnmappedLayer, ArrayStep, CoordinateRange, TooMany, TooDeep, OutOfMemory}
-use Rattle.gds_flat.specs.Elements.{pair_of, mask_of, PointsHave, PointsLack, PathHas, PathLacks, PlaceHas, PlaceLacks, BoxHas, BoxLacks, HasOdd, LacksOdd, LeadTo, NoneLeads, point_at, StepFails, HasSteps, IsDropped, IsUnmapped, IsTested, Fine, FaultOf}
+use Rattle.gds_flat.specs.declared.error.ElementFault.{ElementFault}
+use Rattle.gds_flat.specs.declared.error.ElementFault.TheVariants.{Unmapped, Oddity, Steps}
+use Rattle.gds_flat.specs.Elements.{pair_of, mask_of, end_of, PointsHave, PointsLack, PathHas, PathLacks, PlaceHas, PlaceLacks, BoxHas, BoxLacks, HasOdd, LacksOdd, LeadTo, NoneLeads, point_at, StepFails, HasSteps, IsDropped, IsUnmapped, IsTested, Fine, FaultOf}
 
 -- ---- what has an odd doesn't lack it
 
@@ -23,12 +23,11 @@ points_odd points Angle lacks has = has
 points_odd points Absolute lacks has = has
 points_odd points Slanted lacks has = lacks has
 
-type_odd : (pathtype : ℤ) → ((pathtype ≡ pos 0) ⊎ (pathtype ≡ pos 2)) → ((pathtype ≢ pos 0) × (pathtype ≢ pos 2)) → ⊥
-type_odd pathtype (inl e) has = has.0 e
-type_odd pathtype (inr e) has = has.1 e
+type_odd : {X : Type 0} (end : Option X) → (e : X) × (end ≡ Some e) → end ≡ None → ⊥
+type_odd end lacks has = let some = lacks.1 in cc
 
 path_odd : (pathtype width : ℤ) (points : List Point) (odd : Odd) → PathLacks pathtype width points odd → PathHas pathtype width points odd → ⊥
-path_odd pathtype width points PathType lacks has = type_odd pathtype lacks has
+path_odd pathtype width points PathType lacks has = type_odd (end_of pathtype) lacks has
 path_odd pathtype width points PathWidth lacks has = has lacks
 path_odd pathtype width points BoxElement lacks has = has
 path_odd pathtype width points Magnification lacks has = has
@@ -111,16 +110,10 @@ dropped_and_unmapped tech element pair d u =
 
 -- ---- an element that is fine has no fault
 
-pub fine_and_fault : (tech : Tech) (element : Element) (error : FlatError) → Fine tech element → FaultOf tech element error → ⊥
-fine_and_fault tech element (Unsupported offset odd) (inl d) f = dropped_and_tested tech element d f.tested
-fine_and_fault tech element (Unsupported offset odd) (inr w) f = lacks_and_has element odd (w.1.plain odd) f.first.here
-fine_and_fault tech element (NoSuchStructure name) fine f = f
-fine_and_fault tech element (Cyclic names) fine f = f
-fine_and_fault tech element (UnmappedLayer layer number) (inl d) f = dropped_and_unmapped tech element (layer, number) d f
-fine_and_fault tech element (UnmappedLayer layer number) (inr w) f = unmapped_and_tested tech element (layer, number) f w.0
-fine_and_fault tech element (ArrayStep offset) (inl d) f = dropped_and_tested tech element d f.tested
-fine_and_fault tech element (ArrayStep offset) (inr w) f = steps_and_fails element w.1.steps f.fails
-fine_and_fault tech element (CoordinateRange offset) fine f = f
-fine_and_fault tech element (TooMany count) fine f = f
-fine_and_fault tech element TooDeep fine f = f
-fine_and_fault tech element OutOfMemory fine f = f
+pub fine_and_fault : (tech : Tech) (element : Element) (fault : ElementFault) → Fine tech element → FaultOf tech element fault → ⊥
+fine_and_fault tech element (Unmapped layer number) (inl d) f = dropped_and_unmapped tech element (layer, number) d f
+fine_and_fault tech element (Unmapped layer number) (inr w) f = unmapped_and_tested tech element (layer, number) f w.0
+fine_and_fault tech element (Oddity offset odd) (inl d) f = dropped_and_tested tech element d f.tested
+fine_and_fault tech element (Oddity offset odd) (inr w) f = lacks_and_has element odd (w.1.plain odd) f.first.here
+fine_and_fault tech element (Steps offset) (inl d) f = dropped_and_tested tech element d f.tested
+fine_and_fault tech element (Steps offset) (inr w) f = steps_and_fails element w.1.steps f.fails

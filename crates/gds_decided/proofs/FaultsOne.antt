@@ -7,8 +7,8 @@ use Rattle.rt_tech.specs.declared.table.Tech.{Tech}
 use Rattle.gds_stream.specs.declared.library.Element.{Element}
 use Rattle.gds_flat.specs.declared.error.Odd.{Odd}
 use Rattle.gds_flat.specs.declared.error.Odd.TheVariants.{PathType, PathWidth, BoxElement, Magnification, Angle, Absolute, Slanted}
-use Rattle.gds_flat.specs.declared.error.FlatError.{FlatError}
-use Rattle.gds_flat.specs.declared.error.FlatError.TheVariants.{Unsupported, NoSuchStructure, Cyclic, UnmappedLayer, ArrayStep, CoordinateRange, TooMany, TooDeep, OutOfMemory}
+use Rattle.gds_flat.specs.declared.error.ElementFault.{ElementFault}
+use Rattle.gds_flat.specs.declared.error.ElementFault.TheVariants.{Unmapped, Oddity, Steps}
 use Rattle.gds_flat.specs.Elements.{rank, FirstOdd, IsUnmapped, IsOddAt, FailsAt, Fine, FaultOf, FirstFault}
 use Rattle.gds_decided.proofs.Faults.{lacks_and_has, pairs_one, unmapped_and_tested, fine_and_fault}
 
@@ -44,54 +44,30 @@ odds_one element a b f g = odd_by element a b f g (cases_order (rank a) (rank b)
 
 -- ---- the fault of an element
 
-beside_odd : (tech : Tech) (element : Element) (offset : ℕ) (odd : Odd) (error : FlatError) → IsOddAt tech element offset odd → FaultOf tech element error
-    → Unsupported offset odd ≡ error
-beside_odd tech element offset odd (Unsupported offset' odd') f g =
-    ap₂ (λ o d. Unsupported o d) (f.at ∙ sym g.at) (odds_one element odd odd' f.first g.first)
-beside_odd tech element offset odd (NoSuchStructure name) f g = absurd g
-beside_odd tech element offset odd (Cyclic names) f g = absurd g
-beside_odd tech element offset odd (UnmappedLayer layer number) f g = absurd (unmapped_and_tested tech element (layer, number) g f.tested)
-beside_odd tech element offset odd (ArrayStep offset') f g = absurd (lacks_and_has element odd (g.plain odd) f.first.here)
-beside_odd tech element offset odd (CoordinateRange offset') f g = absurd g
-beside_odd tech element offset odd (TooMany count) f g = absurd g
-beside_odd tech element offset odd TooDeep f g = absurd g
-beside_odd tech element offset odd OutOfMemory f g = absurd g
+beside_odd : (tech : Tech) (element : Element) (offset : ℕ) (odd : Odd) (fault : ElementFault) → IsOddAt tech element offset odd → FaultOf tech element fault
+    → Oddity offset odd ≡ fault
+beside_odd tech element offset odd (Unmapped layer number) f g = absurd (unmapped_and_tested tech element (layer, number) g f.tested)
+beside_odd tech element offset odd (Oddity offset' odd') f g =
+    ap₂ (λ o d. Oddity o d) (f.at ∙ sym g.at) (odds_one element odd odd' f.first g.first)
+beside_odd tech element offset odd (Steps offset') f g = absurd (lacks_and_has element odd (g.plain odd) f.first.here)
 
-beside_unmapped : (tech : Tech) (element : Element) (pair : ℤ × ℤ) (error : FlatError) → IsUnmapped tech pair element → FaultOf tech element error
-    → UnmappedLayer pair.0 pair.1 ≡ error
-beside_unmapped tech element pair (Unsupported offset odd) f g = absurd (unmapped_and_tested tech element pair f g.tested)
-beside_unmapped tech element pair (NoSuchStructure name) f g = absurd g
-beside_unmapped tech element pair (Cyclic names) f g = absurd g
-beside_unmapped tech element pair (UnmappedLayer layer number) f g =
-    ap (λ (p : ℤ × ℤ). UnmappedLayer p.0 p.1) (pairs_one element pair (layer, number) f.has g.has)
-beside_unmapped tech element pair (ArrayStep offset) f g = absurd (unmapped_and_tested tech element pair f g.tested)
-beside_unmapped tech element pair (CoordinateRange offset) f g = absurd g
-beside_unmapped tech element pair (TooMany count) f g = absurd g
-beside_unmapped tech element pair TooDeep f g = absurd g
-beside_unmapped tech element pair OutOfMemory f g = absurd g
+beside_unmapped : (tech : Tech) (element : Element) (pair : ℤ × ℤ) (fault : ElementFault) → IsUnmapped tech pair element → FaultOf tech element fault
+    → Unmapped pair.0 pair.1 ≡ fault
+beside_unmapped tech element pair (Unmapped layer number) f g =
+    ap (λ (p : ℤ × ℤ). Unmapped p.0 p.1) (pairs_one element pair (layer, number) f.has g.has)
+beside_unmapped tech element pair (Oddity offset odd) f g = absurd (unmapped_and_tested tech element pair f g.tested)
+beside_unmapped tech element pair (Steps offset) f g = absurd (unmapped_and_tested tech element pair f g.tested)
 
-beside_steps : (tech : Tech) (element : Element) (offset : ℕ) (error : FlatError) → FailsAt tech element offset → FaultOf tech element error
-    → ArrayStep offset ≡ error
-beside_steps tech element offset (Unsupported offset' odd) f g = absurd (lacks_and_has element odd (f.plain odd) g.first.here)
-beside_steps tech element offset (NoSuchStructure name) f g = absurd g
-beside_steps tech element offset (Cyclic names) f g = absurd g
-beside_steps tech element offset (UnmappedLayer layer number) f g = absurd (unmapped_and_tested tech element (layer, number) g f.tested)
-beside_steps tech element offset (ArrayStep offset') f g = ap (λ o. ArrayStep o) (f.at ∙ sym g.at)
-beside_steps tech element offset (CoordinateRange offset') f g = absurd g
-beside_steps tech element offset (TooMany count) f g = absurd g
-beside_steps tech element offset TooDeep f g = absurd g
-beside_steps tech element offset OutOfMemory f g = absurd g
+beside_steps : (tech : Tech) (element : Element) (offset : ℕ) (fault : ElementFault) → FailsAt tech element offset → FaultOf tech element fault
+    → Steps offset ≡ fault
+beside_steps tech element offset (Unmapped layer number) f g = absurd (unmapped_and_tested tech element (layer, number) g f.tested)
+beside_steps tech element offset (Oddity offset' odd) f g = absurd (lacks_and_has element odd (f.plain odd) g.first.here)
+beside_steps tech element offset (Steps offset') f g = ap (λ o. Steps o) (f.at ∙ sym g.at)
 
-fault_one : (tech : Tech) (element : Element) (a b : FlatError) → FaultOf tech element a → FaultOf tech element b → a ≡ b
-fault_one tech element (Unsupported offset odd) b f g = beside_odd tech element offset odd b f g
-fault_one tech element (NoSuchStructure name) b f g = absurd f
-fault_one tech element (Cyclic names) b f g = absurd f
-fault_one tech element (UnmappedLayer layer number) b f g = beside_unmapped tech element (layer, number) b f g
-fault_one tech element (ArrayStep offset) b f g = beside_steps tech element offset b f g
-fault_one tech element (CoordinateRange offset) b f g = absurd f
-fault_one tech element (TooMany count) b f g = absurd f
-fault_one tech element TooDeep b f g = absurd f
-fault_one tech element OutOfMemory b f g = absurd f
+fault_one : (tech : Tech) (element : Element) (a b : ElementFault) → FaultOf tech element a → FaultOf tech element b → a ≡ b
+fault_one tech element (Unmapped layer number) b f g = beside_unmapped tech element (layer, number) b f g
+fault_one tech element (Oddity offset odd) b f g = beside_odd tech element offset odd b f g
+fault_one tech element (Steps offset) b f g = beside_steps tech element offset b f g
 
 -- ---- the first of a list for which something doesn't hold
 
@@ -106,8 +82,8 @@ first_one P (b ∷ before) behind (b' ∷ before') behind' x y e all all' fails 
     let rest : before ++ x ∷ behind ≡ before' ++ y ∷ behind' = cc in
     first_one P before behind before' behind' x y rest (All-tail P b before all) (All-tail P b' before' all') fails fails'
 
-pub first_fault_one : (tech : Tech) (elements : List Element) (a b : FlatError) → FirstFault tech elements a → FirstFault tech elements b → a ≡ b
+pub first_fault_one : (tech : Tech) (elements : List Element) (a b : ElementFault) → FirstFault tech elements a → FirstFault tech elements b → a ≡ b
 first_fault_one tech elements a b f g =
     let same : g.element ≡ f.element = first_one (Fine tech) g.before g.behind f.before f.behind g.element f.element (sym g.split ∙ f.split) g.fine f.fine
-    (λ fine. fine_and_fault tech g.element b fine g.fault) (λ fine. fine_and_fault tech f.element a fine f.fault) in
-    fault_one tech f.element a b f.fault (subst (λ (e : Element). FaultOf tech e b) same g.fault)
+    (λ fine. fine_and_fault tech g.element b fine g.at) (λ fine. fine_and_fault tech f.element a fine f.at) in
+    fault_one tech f.element a b f.at (subst (λ (e : Element). FaultOf tech e b) same g.at)

@@ -4,6 +4,9 @@ use Rattle.std.proofs.lemmas.List.Elements.{All-contains, Contains-append_left, 
 use Rattle.rt_tech.specs.declared.table.Tech.{Tech}
 use Rattle.rt_layout.specs.declared.layout.Layout.{Layout}
 use Rattle.gds_stream.specs.declared.library.Structure.{Structure}
+use Rattle.gds_flat.specs.declared.limits.TheConstants.{DEEPEST, MOST_ITEMS}
+use Rattle.gds_flat.specs.declared.error.ElementFault.{ElementFault}
+use Rattle.gds_flat.specs.declared.error.ElementFault.TheVariants.{Unmapped, Oddity, Steps}
 use Rattle.gds_flat.specs.declared.error.FlatError.{FlatError}
 use Rattle.gds_flat.specs.declared.error.FlatError.TheVariants.{Unsupported, NoSuchStructure, Cyclic, UnmappedLayer, ArrayStep, CoordinateRange, TooMany, TooDeep, OutOfMemory}
 use Rattle.gds_flat.specs.Reach.{Name, Acyclic, Shallow, Deep}
@@ -28,23 +31,23 @@ sound_and_cycle library top names order reached acyclic h =
 
 pub shallow_and_deep : (library : List Structure) (top : Name) → Shallow library top → Deep library top → ⊥
 shallow_and_deep library top shallow deep =
-    let few : length deep.others < 64 = shallow deep.others deep.chain in
+    let few : length deep.others < DEEPEST = shallow deep.others deep.chain in
     omega (arith, deep.many)
 
-pub accepted_and_faulty : (library : List Structure) (top : Name) (tech : Tech) (error : FlatError) → Accepted library top tech
-    → IsFaulty library top tech error → ⊥
-accepted_and_faulty library top tech error a h =
+pub accepted_and_faulty : (library : List Structure) (top : Name) (tech : Tech) (fault : ElementFault) → Accepted library top tech
+    → IsFaulty library top tech fault → ⊥
+accepted_and_faulty library top tech fault a h =
     let same : h.sound.order ≡ a.sound.order = one_order library h.sound.reached a.sound.reached in
-    let f : FirstFault tech (elements_along library a.sound.order) error =
-    subst (λ (o : List Name). FirstFault tech (elements_along library o) error) same h.first in
-    fine_and_fault tech f.element error
-    (all_between (Fine tech) (elements_along library a.sound.order) f.before f.behind f.element f.split a.fine) f.fault
+    let f : FirstFault tech (elements_along library a.sound.order) fault =
+    subst (λ (o : List Name). FirstFault tech (elements_along library o) fault) same h.first in
+    fine_and_fault tech f.element fault
+    (all_between (Fine tech) (elements_along library a.sound.order) f.before f.behind f.element f.split a.fine) f.at
 
-pub few_and_many : (a b : ℕ) → a ≡ b → a ≤ 50000 → 50000 < b → ⊥
+pub few_and_many : (a b : ℕ) → a ≡ b → a ≤ MOST_ITEMS → MOST_ITEMS < b → ⊥
 few_and_many a b e few many = omega arith
 
 pub flattened_and_many : (library : List Structure) (top : Name) (tech : Tech) (pieces : List Piece) (count : ℕ) → Pieces library tech top pieces
-    → length pieces ≤ 50000 → IsTooMany library top tech count → ⊥
+    → length pieces ≤ MOST_ITEMS → IsTooMany library top tech count → ⊥
 flattened_and_many library top tech pieces count are few h =
     few_and_many (length pieces) (length h.pieces) (ap length (pieces_one library tech top pieces h.pieces are h.are)) few h.many
 
@@ -58,12 +61,12 @@ near_and_far library top tech pieces offset are near h =
 
 pub not_refused : (library : List Structure) (top : Name) (tech : Tech) (layout : Layout) (error : FlatError) → IsFlattened library top tech layout
     → FlatRefused library top tech error → error ≢ OutOfMemory → ⊥
-not_refused library top tech layout (Unsupported offset odd) f h other = accepted_and_faulty library top tech (Unsupported offset odd) f.accepted h
+not_refused library top tech layout (Unsupported offset odd) f h other = accepted_and_faulty library top tech (Oddity offset odd) f.accepted h
 not_refused library top tech layout (NoSuchStructure name) f h other = no_order_and_missing library f.accepted.sound.reached h
 not_refused library top tech layout (Cyclic names) f h other =
     sound_and_cycle library top names f.accepted.sound.order f.accepted.sound.reached f.accepted.sound.acyclic h
-not_refused library top tech layout (UnmappedLayer layer number) f h other = accepted_and_faulty library top tech (UnmappedLayer layer number) f.accepted h
-not_refused library top tech layout (ArrayStep offset) f h other = accepted_and_faulty library top tech (ArrayStep offset) f.accepted h
+not_refused library top tech layout (UnmappedLayer layer number) f h other = accepted_and_faulty library top tech (Unmapped layer number) f.accepted h
+not_refused library top tech layout (ArrayStep offset) f h other = accepted_and_faulty library top tech (Steps offset) f.accepted h
 not_refused library top tech layout (CoordinateRange offset) f h other = near_and_far library top tech f.flat.pieces offset f.flat.are f.near h
 not_refused library top tech layout (TooMany count) f h other = flattened_and_many library top tech f.flat.pieces count f.flat.are f.few h
 not_refused library top tech layout TooDeep f h other = shallow_and_deep library top f.accepted.sound.shallow h.deep

@@ -1,5 +1,5 @@
 -- What a walk and the tests of its elements say together.
-use Rattle.std.proofs.Common.{◌≡◌, ℕ, ◌<◌, ◌≤◌, Bool, true, false, MatchBool, nat_lt, List, [], ◌∷◌, ◌++◌, length, get_or, take, drop, Some, All, Contains, slice_get, Result, Ok, Err, IfErr, OnOk, sym, subst, arith, rules}
+use Rattle.std.proofs.Common.{◌≡◌, ℕ, ◌<◌, ◌≤◌, Bool, true, false, MatchBool, nat_lt, List, [], ◌∷◌, ◌++◌, length, get_or, take, drop, Some, All, Contains, slice_get, sym, subst, arith, rules}
 use Rattle.std.proofs.lemmas.List.{take_all, take-append-drop, length-take-le}
 use Rattle.std.proofs.lemmas.List.Elements.{All-contains, Contains-append_left, Contains-push}
 use Rattle.std.proofs.lemmas.Option.{slice_get-get_or}
@@ -8,15 +8,17 @@ use Rattle.gds_stream.specs.declared.library.Structure.{Structure}
 use Rattle.gds_flat.specs.declared.walk.Walk.{Walk}
 use Rattle.gds_flat.specs.declared.walk.Mark.{Mark}
 use Rattle.gds_flat.specs.declared.walk.Mark.TheVariants.{Unseen, Open, Done}
-use Rattle.gds_flat.specs.declared.error.FlatError.{FlatError}
-use Rattle.gds_flat.specs.declared.error.FlatError.TheVariants.{Unsupported, NoSuchStructure, Cyclic, UnmappedLayer, ArrayStep, CoordinateRange, TooMany, TooDeep, OutOfMemory}
+use Rattle.gds_flat.specs.declared.error.ElementFault.{ElementFault}
+use Rattle.gds_flat.specs.declared.error.ElementFault.TheVariants.{Unmapped, Oddity, Steps}
+use Rattle.gds_flat.specs.declared.error.Stop.{Stop}
+use Rattle.gds_flat.specs.declared.error.Stop.TheVariants.{Unnamed, NoMemory}
 use Rattle.gds_flat.specs.Reach.Order.{done, known, new}
 use Rattle.gds_flat.specs.Reach.{Name, Order, Chain, Acyclic, Shallow, Deep}
-use Rattle.gds_flat.specs.Elements.{FirstFault, Fine}
+use Rattle.gds_flat.specs.Elements.{FirstFault}
 use Rattle.gds_flat.specs.Walking.{name_at, names_at, IsFirst, AreMarked, IsCircle, HasWalked, StopsWith}
 use Rattle.gds_flat.specs.Depths.{IsTree, IsDepthOf}
 use Rattle.gds_flat.specs.Drawings.{IsAcceptedWalk}
-use Rattle.gds_flat.specs.Refused.{elements_along, IsSound, Accepted, HasCycle, IsTooDeep, FlatRefused, CycleRefused}
+use Rattle.gds_flat.specs.Refused.{elements_along, IsSound, Accepted, HasCycle, IsTooDeep, FlatRefused, refusal_of, refusal_to}
 use Rattle.gds_flat.proofs.Entries.{mapped, mapped_from, entry_in, in_entry}
 use Rattle.gds_flat.proofs.Going.{chain_ends}
 use Rattle.std.proofs.Common.{tests}
@@ -102,64 +104,26 @@ tree_deep library top walk t deep =
     record { order = names_at library walk.order.items; reached = t.order; acyclic = tree_acyclic library top walk t; deep = deep }
 
 -- the first fault is a refusal
-fault_refused : (library : List Structure) (top : Name) (tech : Tech) (error : FlatError) (sound : IsSound library top)
-    → FirstFault tech (elements_along library sound.order) error → FlatRefused library top tech error
-fault_refused library top tech (Unsupported offset odd) sound f = record { sound = sound; first = f }
-fault_refused library top tech (NoSuchStructure name) sound f = absurd f.fault
-fault_refused library top tech (Cyclic names) sound f = absurd f.fault
-fault_refused library top tech (UnmappedLayer layer number) sound f = record { sound = sound; first = f }
-fault_refused library top tech (ArrayStep offset) sound f = record { sound = sound; first = f }
-fault_refused library top tech (CoordinateRange offset) sound f = absurd f.fault
-fault_refused library top tech (TooMany count) sound f = absurd f.fault
-fault_refused library top tech TooDeep sound f = absurd f.fault
-fault_refused library top tech OutOfMemory sound f = tt
+fault_refused : (library : List Structure) (top : Name) (tech : Tech) (fault : ElementFault) (sound : IsSound library top)
+    → FirstFault tech (elements_along library sound.order) fault → FlatRefused library top tech (refusal_of fault)
+fault_refused library top tech (Unmapped layer number) sound f = record { sound = sound; first = f }
+fault_refused library top tech (Oddity offset odd) sound f = record { sound = sound; first = f }
+fault_refused library top tech (Steps offset) sound f = record { sound = sound; first = f }
 
-pub tested_refused : {T : Type 0} (library : List Structure) (top : Name) (tech : Tech) (walk : Walk) (r : Result T FlatError) → IsTree library top walk → Shallow library top
-    → IfErr r (FirstFault tech (elements_along library (names_at library walk.order.items))) → IfErr r (FlatRefused library top tech)
+pub tested_refused : (library : List Structure) (top : Name) (tech : Tech) (walk : Walk) (fault : ElementFault) → IsTree library top walk → Shallow library top
+    → FirstFault tech (elements_along library (names_at library walk.order.items)) fault → FlatRefused library top tech (refusal_of fault)
 unfolding tree_sound
-tested_refused library top tech walk (Ok x) t shallow h = tt
-tested_refused library top tech walk (Err e) t shallow h = fault_refused library top tech e (tree_sound library top walk t shallow) h
-
-pub tested_accepted : {T : Type 0} (library : List Structure) (top : Name) (tech : Tech) (walk : Walk) (r : Result T FlatError) → IsTree library top walk → Shallow library top
-    → OnOk r (All (Fine tech) (elements_along library (names_at library walk.order.items))) → OnOk r (IsAcceptedWalk library top tech walk)
-tested_accepted library top tech walk (Ok x) t shallow h = record { tree = t; shallow = shallow; fine = h }
-tested_accepted library top tech walk (Err e) t shallow h = tt
+tested_refused library top tech walk fault t shallow f = fault_refused library top tech fault (tree_sound library top walk t shallow) f
 
 -- what a walk that is accepted reaches is accepted
 pub walk_accepted : (library : List Structure) (top : Name) (tech : Tech) (walk : Walk) → IsAcceptedWalk library top tech walk → Accepted library top tech
 unfolding tree_sound
 walk_accepted library top tech walk h = record { sound = tree_sound library top walk h.tree h.shallow; fine = h.fine }
 
--- a circle, and a walk that stopped, are refusals
-cycle_one : (library : List Structure) (top : Name) (tech : Tech) (error : FlatError) → CycleRefused library top error → FlatRefused library top tech error
-cycle_one library top tech (Unsupported offset odd) h = absurd h
-cycle_one library top tech (NoSuchStructure name) h = absurd h
-cycle_one library top tech (Cyclic names) h = h
-cycle_one library top tech (UnmappedLayer layer number) h = absurd h
-cycle_one library top tech (ArrayStep offset) h = absurd h
-cycle_one library top tech (CoordinateRange offset) h = absurd h
-cycle_one library top tech (TooMany count) h = absurd h
-cycle_one library top tech TooDeep h = absurd h
-cycle_one library top tech OutOfMemory h = tt
-
-pub cycle_refused : {T : Type 0} (library : List Structure) (top : Name) (tech : Tech) (r : Result T FlatError) → IfErr r (CycleRefused library top) → IfErr r (FlatRefused library top tech)
-cycle_refused library top tech (Ok x) h = tt
-cycle_refused library top tech (Err e) h = cycle_one library top tech e h
-
-pub cycle_not_ok : {T : Type 0} (P : Type 0) (r : Result T FlatError) → OnOk r ⊥ → OnOk r P
-cycle_not_ok P (Ok x) h = absurd h
-cycle_not_ok P (Err e) h = tt
-
-pub stop_refused : (library : List Structure) (top : Name) (tech : Tech) (error : FlatError) → StopsWith library top error → FlatRefused library top tech error
-stop_refused library top tech (Unsupported offset odd) h = absurd h
-stop_refused library top tech (NoSuchStructure name) h = h
-stop_refused library top tech (Cyclic names) h = absurd h
-stop_refused library top tech (UnmappedLayer layer number) h = absurd h
-stop_refused library top tech (ArrayStep offset) h = absurd h
-stop_refused library top tech (CoordinateRange offset) h = absurd h
-stop_refused library top tech (TooMany count) h = absurd h
-stop_refused library top tech TooDeep h = absurd h
-stop_refused library top tech OutOfMemory h = tt
+-- a walk that stopped is a refusal
+pub stop_refused : (library : List Structure) (top : Name) (tech : Tech) (stop : Stop) → StopsWith library top stop → FlatRefused library top tech (refusal_to stop)
+stop_refused library top tech (Unnamed name) h = h
+stop_refused library top tech NoMemory h = tt
 
 -- the circle of a walk by its names
 pub has_cycle : (library : List Structure) (top : Name) (walk : Walk) (places : List ℕ) (names : List Name) → HasWalked library top walk
@@ -167,15 +131,3 @@ pub has_cycle : (library : List Structure) (top : Name) (walk : Walk) (places : 
 has_cycle library top walk places names h c is =
     let P : List Name → Type 0 = λ ns. HasCycle library top ns in
     subst P (sym is) (record { order = names_at library walk.order.items; reached = h.order; cycle = c.cycle; on = c.on })
-
--- the same library, and the same top
-pub accepted_same : (tech : Tech) {a b : List Structure} {s t : Name} → a ≡ b → s ≡ t → Accepted a s tech → Accepted b t tech
-accepted_same tech {b = b} {s = s} e f h =
-    let P : List Structure → Type 0 = λ x. Accepted x s tech in
-    let Q : Name → Type 0 = λ n. Accepted b n tech in subst Q f (subst P e h)
-
-pub refused_same : {T : Type 0} (tech : Tech) (r : Result T FlatError) {a b : List Structure} {s t : Name} → a ≡ b → s ≡ t
-    → IfErr r (FlatRefused a s tech) → IfErr r (FlatRefused b t tech)
-refused_same tech r {b = b} {s = s} e f h =
-    let P : List Structure → Type 0 = λ x. IfErr r (FlatRefused x s tech) in
-    let Q : Name → Type 0 = λ n. IfErr r (FlatRefused b n tech) in subst Q f (subst P e h)

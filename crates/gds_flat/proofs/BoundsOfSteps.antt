@@ -1,6 +1,6 @@
 -- How far steps reach, and how far moved pieces lie.
 use Rattle.std.proofs.Common.{◌≡◌, ℕ, zero, suc, ◌*◌, ◌%◌, ◌^◌, ◌<◌, ◌≤◌, Bool, true, false, ℤ, pos, negsuc, neg_ℤ, ◌+ℤ◌, ◌*ℤ◌, ◌≤ℤ◌, unsigned_abs, List, length, get_or, All, to_z, of_z, w64, sym, ap, subst, ◌∙◌, arith}
-use Rattle.std.specs.Int.RustNames.{int_div, int_rem}
+use Rattle.std.specs.Int.RustNames.{int_div}
 use Rattle.std.specs.Int.Signed.{quot_z}
 use Rattle.std.proofs.Math.IntN.{*ℤ_comm}
 use Rattle.std.proofs.Math.Nat.{mul-mod_right, le-mul_of_pos_right}
@@ -20,12 +20,9 @@ use Rattle.gds_flat.specs.Drawn.{drawing_of, piece_of, pieces_in}
 use Rattle.gds_flat.specs.Building.{SpotWithin, DrawingWithin, PieceWithin, most_shift, most_reach}
 use Rattle.gds_flat.proofs.Coming.{entry_is}
 use Rattle.gds_flat.proofs.Entries.{entry_in, mapped}
+use Rattle.gds_flat.proofs.Leading.{rem_none}
 
 -- ---- parts and products
-
-rem_none : (d c : ℤ) → unsigned_abs d % unsigned_abs c ≡ 0 → int_rem d c ≡ pos 0
-rem_none (pos a) c even = ap pos even
-rem_none (negsuc a) c even = ap (λ n. neg_ℤ (pos n)) even
 
 -- what is so many equal parts is so many times the quotient
 pub quotient_is : (c d p : ℤ) → c *ℤ p ≡ d → c *ℤ int_div d c ≡ d
@@ -77,21 +74,32 @@ part_is c d w n some whole low high we ne =
     let back : to_z w64 (of_z w64 (quot_z d c)) ≡ quot_z d c = omega (arith, ints, l, h) in
     ap (λ x. to_z w64 (of_z w64 (quot_z x n))) we ∙ ap (λ x. to_z w64 (of_z w64 (quot_z d x))) ne ∙ back
 
--- a coordinate after steps, as it is computed
-pub along_is : (g f a b x y : ℤ) → g ≡ f → neg_ℤ (pos (2 ^ 31)) ≤ℤ f → f ≤ℤ pos (2 ^ 31) → neg_ℤ (pos (2 ^ 48)) ≤ℤ a → a ≤ℤ pos (2 ^ 48)
+-- a coordinate after steps, as it is computed, is near
+pub record IsAlong (at found : ℤ) : Type 0 where
+  pub value : found ≡ at
+  pub low : neg_ℤ most_shift ≤ℤ found
+  pub high : found ≤ℤ most_shift
+
+along_is : (g f a b x y : ℤ) → g ≡ f → neg_ℤ (pos (2 ^ 31)) ≤ℤ f → f ≤ℤ pos (2 ^ 31) → neg_ℤ (pos (2 ^ 48)) ≤ℤ a → a ≤ℤ pos (2 ^ 48)
     → neg_ℤ (pos (2 ^ 48)) ≤ℤ b → b ≤ℤ pos (2 ^ 48) → a ≡ x → b ≡ y
     → to_z w64 (of_z w64 (to_z w64 (of_z w64 (to_z w64 (of_z w64 g) +ℤ to_z w64 (of_z w64 a))) +ℤ to_z w64 (of_z w64 b))) ≡ (f +ℤ x) +ℤ y
 along_is g f a b x y e fl fh al ah bl bh ax by = omega (arith, ints)
 
-pub along_low : (g f a b : ℤ) → g ≡ f → neg_ℤ (pos (2 ^ 31)) ≤ℤ f → f ≤ℤ pos (2 ^ 31) → neg_ℤ (pos (2 ^ 48)) ≤ℤ a → a ≤ℤ pos (2 ^ 48)
-    → neg_ℤ (pos (2 ^ 48)) ≤ℤ b → b ≤ℤ pos (2 ^ 48)
-    → neg_ℤ most_shift ≤ℤ (to_z w64 (of_z w64 (to_z w64 (of_z w64 (to_z w64 (of_z w64 g) +ℤ to_z w64 (of_z w64 a))) +ℤ to_z w64 (of_z w64 b))))
-along_low g f a b e fl fh al ah bl bh = omega (arith, ints)
+along_low : (f a b x y : ℤ) → neg_ℤ (pos (2 ^ 31)) ≤ℤ f → neg_ℤ (pos (2 ^ 48)) ≤ℤ a → neg_ℤ (pos (2 ^ 48)) ≤ℤ b → a ≡ x → b ≡ y
+    → neg_ℤ most_shift ≤ℤ ((f +ℤ x) +ℤ y)
+along_low f a b x y fl al bl ax by = omega (arith, ints)
 
-pub along_high : (g f a b : ℤ) → g ≡ f → neg_ℤ (pos (2 ^ 31)) ≤ℤ f → f ≤ℤ pos (2 ^ 31) → neg_ℤ (pos (2 ^ 48)) ≤ℤ a → a ≤ℤ pos (2 ^ 48)
-    → neg_ℤ (pos (2 ^ 48)) ≤ℤ b → b ≤ℤ pos (2 ^ 48)
-    → (to_z w64 (of_z w64 (to_z w64 (of_z w64 (to_z w64 (of_z w64 g) +ℤ to_z w64 (of_z w64 a))) +ℤ to_z w64 (of_z w64 b)))) ≤ℤ most_shift
-along_high g f a b e fl fh al ah bl bh = omega (arith, ints)
+along_high : (f a b x y : ℤ) → f ≤ℤ pos (2 ^ 31) → a ≤ℤ pos (2 ^ 48) → b ≤ℤ pos (2 ^ 48) → a ≡ x → b ≡ y → ((f +ℤ x) +ℤ y) ≤ℤ most_shift
+along_high f a b x y fh ah bh ax by = omega (arith, ints)
+
+pub along_there : (g f a b x y : ℤ) → g ≡ f → neg_ℤ (pos (2 ^ 31)) ≤ℤ f → f ≤ℤ pos (2 ^ 31) → neg_ℤ (pos (2 ^ 48)) ≤ℤ a → a ≤ℤ pos (2 ^ 48)
+    → neg_ℤ (pos (2 ^ 48)) ≤ℤ b → b ≤ℤ pos (2 ^ 48) → a ≡ x → b ≡ y
+    → IsAlong ((f +ℤ x) +ℤ y) (to_z w64 (of_z w64 (to_z w64 (of_z w64 (to_z w64 (of_z w64 g) +ℤ to_z w64 (of_z w64 a))) +ℤ to_z w64 (of_z w64 b))))
+along_there g f a b x y e fl fh al ah bl bh ax by =
+    let is = along_is g f a b x y e fl fh al ah bl bh ax by in
+    let Low : ℤ → Type 0 = λ z. neg_ℤ most_shift ≤ℤ z in
+    let High : ℤ → Type 0 = λ z. z ≤ℤ most_shift in
+    record { value = is; low = subst Low (sym is) (along_low f a b x y fl al bl ax by); high = subst High (sym is) (along_high f a b x y fh ah bh ax by) }
 
 -- ---- what is moved
 

@@ -149,7 +149,7 @@ given_masked : (count : ℕ) (e : Element) (mask : ℕ) (pieces : List Piece) �
 given_masked count (Boundary offset layer datatype points) mask pieces below h =
     let P : List Piece → Type 0 = λ ps. All (HasMask count) ps in subst P (sym h.are) (areas_masked count offset mask h.rects below)
 given_masked count (Path offset layer datatype pathtype width points) mask pieces below h =
-    let P : List Piece → Type 0 = λ ps. All (HasMask count) ps in subst P (sym h) (areas_masked count offset mask _ below)
+    let P : List Piece → Type 0 = λ ps. All (HasMask count) ps in subst P (sym h.are) (areas_masked count offset mask _ below)
 given_masked count (Sref offset name place at) mask pieces below h = none_masked count pieces h
 given_masked count (Aref offset name place columns rows points) mask pieces below h = none_masked count pieces h
 given_masked count (Label offset layer texttype at text) mask pieces below h =

@@ -1,47 +1,34 @@
 -- The pieces of elements, one after another, and of what they place.
-use Rattle.std.proofs.Common.{◌≡◌, ℕ, suc, ◌+◌, ◌^◌, ◌<◌, ◌≤◌, nat_le, ℤ, pos, negsuc, ◌+ℤ◌, ◌≤ℤ◌, List, [], ◌∷◌, ◌++◌, length, map, get_or, take, Option, Some, None, slice_get, All, Contains, Result, Ok, Err, OnOk, refl, sym, ap, subst, ◌∙◌, inl, inr, ⊎_elim, append_assoc, arith}
-use Rattle.std.specs.Int.{int_rem_euclid}
+use Rattle.std.proofs.Common.{◌≡◌, ℕ, suc, ◌+◌, ◌<◌, ◌≤◌, ℤ, ◌+ℤ◌, ◌≤ℤ◌, List, [], ◌∷◌, ◌++◌, length, map, get_or, take, Option, Some, None, slice_get, All, Contains, Result, Ok, Err, OnOk, refl, sym, ap, subst, ◌∙◌, ⊎_elim, arith}
 use Rattle.std.proofs.lemmas.Int.{ints}
 use Rattle.std.proofs.lemmas.Bool.{cases_lt}
 use Rattle.std.proofs.lemmas.List.{append-nil, take_more, length-append}
 use Rattle.std.proofs.lemmas.Option.{slice_get_within}
 use Rattle.std.proofs.lemmas.List.Elements.{All-nil, All-cons, All-append, All-contains, Contains-append_left, Contains-append_right, filter_map-append}
-use Rattle.rt_base.specs.declared.plane.Orient.{Orient}
 use Rattle.rt_tech.specs.declared.table.Tech.{Tech}
-use Rattle.gds_records.specs.Reals.{IsQuarterTurns}
 use Rattle.gds_stream.specs.declared.library.Element.{Element}
-use Rattle.gds_stream.specs.declared.library.Element.TheVariants.{Boundary, Path, Sref, Aref, Label, BoxShape}
-use Rattle.gds_stream.specs.declared.library.Place.{Place}
 use Rattle.gds_stream.specs.declared.library.Structure.{Structure}
 use Rattle.gds_slabs.specs.declared.step.Step.{Step}
 use Rattle.gds_slabs.specs.Steps.{ShiftsWithin}
-use Rattle.gds_flat.specs.declared.error.Odd.TheVariants.{Angle}
 use Rattle.gds_flat.specs.declared.item.Item.{Item}
+use Rattle.gds_flat.specs.declared.limits.TheConstants.{DEEPEST}
 use Rattle.gds_flat.specs.Reach.{Name, structure_named, target, references, Chain, Shallow}
-use Rattle.gds_flat.specs.Elements.{PlaceLacks, AreSteps, point_at, IsWhole, Fine}
-use Rattle.gds_flat.specs.Placing.{IsTurnOf, StepsOf}
+use Rattle.gds_flat.specs.Elements.{Fine}
+use Rattle.gds_flat.specs.Placing.{StepsOf}
 use Rattle.gds_flat.specs.Items.{Piece, piece_moved, all_moved, Own, PiecesOf}
 use Rattle.gds_flat.specs.Items.PiecesOf.{none, own, placed as by_place}
 use Rattle.gds_flat.specs.Drawn.{pieces_in}
 use Rattle.gds_flat.specs.Walking.{name_at, elements_at, IsFirst}
 use Rattle.gds_flat.specs.Depths.{IsRankOf}
-use Rattle.gds_flat.specs.Building.{PieceWithin, most_shift, most_reach, reach_of, Appends, AreNearAnd, AreMovedBy, HasTurn, ChainFrom, AreNear, AreFrom, IsListOf, AreLists}
+use Rattle.gds_flat.specs.Building.{PieceWithin, most_shift, most_reach, reach_of, Appends, AreNearAnd, AreMovedBy, ChainFrom, AreNear, AreFrom, IsListOf, AreLists}
 use Rattle.gds_flat.proofs.Going.{IsPlaced, placed, name_placed}
 use Rattle.gds_flat.proofs.Coming.{entry_is, all_entries}
 use Rattle.gds_flat.proofs.Entries.{entry_in, pushed_entry}
 use Rattle.gds_flat.proofs.Ranking.{placed_one}
+use Rattle.gds_flat.proofs.PiecesThere.{steps_there, whole_reference, pieces_of_join}
 use Rattle.gds_flat.proofs.BoundsOfSteps.{piece_wider, piece_moved_within}
-use Rattle.gds_flat.proofs.BuildingSteps.{array_steps}
 
 -- ---- one after another
-
-pieces_append : (library : List Structure) (tech : Tech) {xs ys : List Element} {a b : List Piece} → PiecesOf library tech xs a → PiecesOf library tech ys b
-    → PiecesOf library tech (xs ++ ys) (a ++ b)
-pieces_append library tech none q = q
-pieces_append library tech {b = b} (own e mine others t o r is) q =
-    own e mine (others ++ b) t o (pieces_append library tech r q) (ap (λ ps. ps ++ b) is ∙ append_assoc mine others b)
-pieces_append library tech {b = b} (by_place e to s inner others steps t f i st r is) q =
-    by_place e to s inner (others ++ b) steps t f i st (pieces_append library tech r q) (ap (λ ps. ps ++ b) is ∙ append_assoc (all_moved steps inner) others b)
 
 -- among more elements
 more_left : (es fs : List Element) (n : Name) → Contains (references es) n → Contains (references (es ++ fs)) n
@@ -100,7 +87,7 @@ from_more library tech elements i e old new below is h k =
     let P : List Element → Type 0 = λ xs. AreFrom library tech xs (pieces_in old ++ k.more) in
     let Q : List Piece → Type 0 = λ ps. AreFrom library tech (take (i + 1) elements) ps in
     subst Q (sym k.appended) (subst P es (record {
-      pieces_of = pieces_append library tech h.pieces_of k.are.pieces_of;
+      pieces_of = pieces_of_join library tech h.pieces_of k.are.pieces_of;
       near = near_append library (take i elements) (e ∷ []) (pieces_in old) k.more h.near k.are.near;
     }))
 
@@ -162,48 +149,6 @@ placed_from (Ok x) library tech e to inner old new at list h =
 
 -- ---- a reference to nothing
 
-rest_below : (z : ℤ) (n : ℕ) → pos n ≡ int_rem_euclid z (pos 4) → n < 4
-rest_below (pos a) n e = omega (arith, ints)
-rest_below (negsuc a) n e = omega (arith, ints)
-
-quarters_below : (angle : List ℕ) (n : ℕ) → IsQuarterTurns angle n → n < 4
-quarters_below angle n h = rest_below h.quarters n h.beside
-
-turn_there : (place : Place) → PlaceLacks place Angle → (orient : Orient) × HasTurn place orient
-turn_there place h =
-    (record { reflect = nat_le (2 ^ 15) place.flags; quarters = h.0; below_a_turn = quarters_below place.angle h.0 h.1 }, record { reflect = refl; quarters = h.1 })
-
-steps_there : (e : Element) (to : Name) → target e ≡ Some to → IsWhole e → (steps : List Step) × StepsOf e steps
-steps_there (Boundary offset layer datatype points) to at whole = cc
-steps_there (Path offset layer datatype pathtype width points) to at whole = cc
-steps_there (Sref offset name place p) to at whole =
-    let t = turn_there place (whole.plain Angle) in
-    let turn : HasTurn place t.0 = t.1 in
-    let step : Step = record { orient = t.0; dx = p.x; dy = p.y } in (
-      step ∷ [],
-      record {
-        turns = All-cons (IsTurnOf place) step [] (record { reflect = turn.reflect; quarters = turn.quarters }) (All-nil (IsTurnOf place));
-        follow = refl;
-      },
-    )
-steps_there (Aref offset name place columns rows points) to at whole =
-    let t = turn_there place (whole.plain Angle) in
-    let s = whole.steps in
-    let whole_steps : AreSteps columns rows points s.0 s.1 = s.2 in
-    (_, array_steps place columns rows points t.0 (point_at points 0) s.0 s.1 (record { turn = t.1; first = refl; whole = whole_steps }))
-steps_there (Label offset layer texttype p text) to at whole = cc
-steps_there (BoxShape offset layer boxtype) to at whole = cc
-
--- a reference that is fine is whole
-reference_whole : (tech : Tech) (e : Element) (to : Name) → target e ≡ Some to → Fine tech e → IsWhole e
-reference_whole tech e to at (inr h) = h.1
-reference_whole tech (Boundary offset layer datatype points) to at (inl h) = cc
-reference_whole tech (Path offset layer datatype pathtype width points) to at (inl h) = cc
-reference_whole tech (Sref offset name place p) to at (inl h) = let e = h.has in cc
-reference_whole tech (Aref offset name place columns rows points) to at (inl h) = let e = h.has in cc
-reference_whole tech (Label offset layer texttype p text) to at (inl h) = cc
-reference_whole tech (BoxShape offset layer boxtype) to at (inl h) = cc
-
 nothing_moved : (steps : List Step) → all_moved steps [] ≡ []
 nothing_moved [] = refl
 nothing_moved (step ∷ steps) = nothing_moved steps
@@ -212,7 +157,7 @@ nothing_moved (step ∷ steps) = nothing_moved steps
 pub nothing_from : (library : List Structure) (tech : Tech) (e : Element) (to : Name) (inner items : List Item) → target e ≡ Some to → Fine tech e
     → IsListOf library tech to (pieces_in inner) → inner ≡ [] → Appends (AreFrom library tech (e ∷ [])) items items
 nothing_from library tech e to inner items at fine list none_in =
-    let st = steps_there e to at (reference_whole tech e to at fine) in
+    let st = steps_there e to at (whole_reference tech e to at fine) in
     let P : List Item → Type 0 = λ xs. PiecesOf library tech list.are.structure.elements (pieces_in xs) in
     record {
       more = [];
@@ -240,7 +185,7 @@ list_near library tech name pieces h =
     let short = h.shallow h.names h.chain in
     wider (reach_of (length h.names)) most_reach pieces (short_reach (length h.names) short) h.near
   where
-    short_reach : (n : ℕ) → n < 64 → reach_of n ≤ℤ most_reach
+    short_reach : (n : ℕ) → n < DEEPEST → reach_of n ≤ℤ most_reach
     short_reach n few = omega (arith, ints)
 
 -- the list of a structure, by its elements

@@ -133,7 +133,7 @@ all_turns place orient origin across up columns (j ∷ numbers) turn =
     (row_turns place orient origin across up j (range_with_len 0 columns) turn) (all_turns place orient origin across up columns numbers turn)
 
 -- the steps of an array
-pub array_steps : (place : Place) (columns rows : ℤ) (points : List Point) (orient : Orient) (origin : Point) (across up : ℤ × ℤ)
+array_steps : (place : Place) (columns rows : ℤ) (points : List Point) (orient : Orient) (origin : Point) (across up : ℤ × ℤ)
     → AreStrides place columns rows points orient origin across up
     → AreArraySteps place columns rows points (all_steps orient origin across up (unsigned_abs columns) (unsigned_abs rows))
 array_steps place columns rows points orient origin across up h =

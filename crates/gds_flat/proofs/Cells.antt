@@ -10,7 +10,7 @@ use Rattle.gds_stream.specs.declared.library.Element.{Element}
 use Rattle.gds_stream.specs.declared.library.Element.TheVariants.{Boundary, Path, Sref, Aref, Label, BoxShape}
 use Rattle.gds_stream.specs.declared.library.Structure.{Structure}
 use Rattle.gds_slabs.specs.declared.step.Step.{Step}
-use Rattle.gds_slabs.specs.Path.{path_areas, half_of}
+use Rattle.gds_slabs.specs.Path.{path_areas, PathArea, half_of}
 use Rattle.gds_slabs.specs.Steps.{moved_rect, moved_cell, IsMovedFrom}
 use Rattle.gds_slabs.proofs.Members.{Among, contains_from_among, among_from_contains}
 use Rattle.gds_slabs.proofs.Coverings.{inside_covered, covered_inside}
@@ -18,8 +18,8 @@ use Rattle.gds_slabs.proofs.PathAreas.{listed_areas}
 use Rattle.gds_slabs.proofs.Placing.{moved_holds, moved_from}
 use Rattle.gds_flat.specs.declared.error.Odd.TheVariants.{Slanted}
 use Rattle.gds_flat.specs.Reach.{Name, structure_named, target, references, Refers, is_named}
-use Rattle.gds_flat.specs.Elements.{mask_of, Plain, IsWhole, IsDropped, Fine}
-use Rattle.gds_flat.specs.Placing.{StepsOf, end_of, ElementCovers, Covered}
+use Rattle.gds_flat.specs.Elements.{mask_of, end_of, Plain, IsWhole, IsDropped, Fine}
+use Rattle.gds_flat.specs.Placing.{StepsOf, ElementCovers, Covered}
 use Rattle.gds_flat.specs.Placing.Covered.{own as covers_itself, placed as covers_by}
 use Rattle.gds_flat.specs.Items.{Drawing, Piece, area_piece, note_piece, GivesOn, Own, drawing_moved, piece_moved, all_moved, PiecesOf, Pieces}
 use Rattle.gds_flat.specs.Items.Drawing.{area_of, note_at}
@@ -27,6 +27,7 @@ use Rattle.gds_flat.specs.Items.PiecesOf.{none as no_pieces, own as own_pieces, 
 use Rattle.gds_flat.specs.Drawn.{IsDrawable, AreDrawable}
 use Rattle.gds_flat.specs.Drawings.{Shows, OneShows}
 use Rattle.gds_flat.proofs.Entries.{mapped, mapped_from}
+use Rattle.gds_flat.proofs.PiecesOne.{ends_one}
 
 shows_left : (a b : List Piece) (m : ℕ) (cell : ℤ × ℤ) → OneShows a m cell → OneShows (a ++ b) m cell
 shows_left a b m cell h = (h.0, Contains-append_left a b h.0 h.1, h.2)
@@ -85,9 +86,9 @@ gives_shown (Boundary offset layer datatype points) k mine m cell closed plain g
     let s = areas_shown offset k gives.rects m cell (shows_same mine _ m cell gives.are h) in
     (s.0, covered_inside points closed (plain Slanted) gives.rects gives.slabs cell.0 cell.1 s.1)
 gives_shown (Path offset layer datatype pathtype width points) k mine m cell long plain gives h =
-    let s = areas_shown offset k (path_areas (half_of width) (end_of pathtype) points) m cell (shows_same mine _ m cell gives h) in
+    let s = areas_shown offset k (path_areas (half_of width) gives.end points) m cell (shows_same mine _ m cell gives.are h) in
     let c = s.1 in
-    (s.0, (c.0, (listed_areas (half_of width) (end_of pathtype) points c.0).0 c.1, c.2))
+    (s.0, record { end = gives.end; ends = gives.ends; rect = c.0; of = (listed_areas (half_of width) gives.end points c.0).0 c.1; holds = c.2 })
 gives_shown (Sref offset name place at) k mine m cell drawable plain gives h =
     let g = shows_same mine [] m cell gives h in let c = g.1 in absurd (omega (arith, c.1))
 gives_shown (Aref offset name place columns rows points) k mine m cell drawable plain gives h =
@@ -103,9 +104,10 @@ gives_covered (Boundary offset layer datatype points) m mine cell closed plain g
     shows_same _ mine m cell (sym gives.are)
     (shown_areas offset m gives.rects cell (inside_covered points closed (plain Slanted) gives.rects gives.slabs cell.0 cell.1 h))
 gives_covered (Path offset layer datatype pathtype width points) m mine cell long plain gives h =
-    shows_same _ mine m cell (sym gives)
-    (shown_areas offset m (path_areas (half_of width) (end_of pathtype) points) cell
-    (h.0, (listed_areas (half_of width) (end_of pathtype) points h.0).1 h.1, h.2))
+    let same : h.end ≡ gives.end = ends_one (end_of pathtype) h.end gives.end h.ends gives.ends in
+    shows_same _ mine m cell (sym gives.are)
+    (shown_areas offset m (path_areas (half_of width) gives.end points) cell
+    (h.rect, (listed_areas (half_of width) gives.end points h.rect).1 (subst (λ e. PathArea (half_of width) e points h.rect) same h.of), h.holds))
 gives_covered (Sref offset name place at) m mine cell drawable plain gives h = absurd h
 gives_covered (Aref offset name place columns rows points) m mine cell drawable plain gives h = absurd h
 gives_covered (Label offset layer texttype at text) m mine cell drawable plain gives h = absurd h

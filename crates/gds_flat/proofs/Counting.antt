@@ -15,19 +15,20 @@ use Rattle.gds_stream.specs.declared.library.Place.{Place}
 use Rattle.gds_slabs.specs.declared.step.Step.{Step}
 use Rattle.gds_slabs.specs.Polygon.{IsSlanted}
 use Rattle.gds_slabs.specs.Slabs.{IsSlabs, IsSlabCount}
+use Rattle.gds_slabs.specs.declared.path.PathEnd.{PathEnd}
 use Rattle.gds_slabs.specs.Path.{path_areas, half_of}
 use Rattle.gds_flat.specs.declared.error.Odd.TheVariants.{Slanted}
 use Rattle.gds_flat.specs.Reach.{Name, target}
 use Rattle.gds_flat.specs.Walking.{name_at, elements_at, IsFirst}
-use Rattle.gds_flat.specs.Elements.{mask_of, IsWhole, point_at}
-use Rattle.gds_flat.specs.Placing.{shift_of, AreStepsTo, array_shifts, AreArraySteps, end_of}
+use Rattle.gds_flat.specs.Elements.{mask_of, end_of, IsWhole, point_at}
+use Rattle.gds_flat.specs.Placing.{shift_of, AreStepsTo, array_shifts, AreArraySteps}
 use Rattle.gds_flat.specs.Items.{Piece, area_piece, note_piece, all_moved, PiecesOf}
 use Rattle.gds_flat.specs.Drawn.{IsCount, HasCount}
 use Rattle.gds_flat.specs.Counting.{AreFirstCounts, HasCountOf, HasOwnCount, HasCountOn, IsPlacedTimes}
 use Rattle.gds_flat.proofs.Entries.{pushed_entry}
 use Rattle.gds_flat.proofs.Going.{IsPlaced, placed}
 use Rattle.gds_flat.proofs.Ranking.{IsTurn}
-use Rattle.gds_flat.proofs.PiecesThere.{own_none, own_some, steps_there, pieces_of_join, pieces_of_own, pieces_of_placed}
+use Rattle.gds_flat.proofs.PiecesThere.{own_some, steps_there, pieces_of_join, pieces_of_own, pieces_of_placed}
 use Rattle.gds_flat.proofs.PiecesLong.{length_all_moved, length_array_shifts}
 
 -- ---- sums and products
@@ -119,14 +120,14 @@ polygon_counted e offset layer datatype points count is s low =
     })
 
 pub path_counted : (e : Element) (offset : ℕ) (layer datatype pathtype width : ℤ) (points : List Point) (count : ℕ)
-    → e ≡ Path offset layer datatype pathtype width points → count ≡ length (path_areas (half_of width) (end_of pathtype) points) → count < 2 ^ 64
-    → HasCountOn e count
-path_counted e offset layer datatype pathtype width points count is same low =
+    (end : PathEnd) → e ≡ Path offset layer datatype pathtype width points → end_of pathtype ≡ Some end
+    → count ≡ length (path_areas (half_of width) end points) → count < 2 ^ 64 → HasCountOn e count
+path_counted e offset layer datatype pathtype width points count end is ends same low =
     let P : Element → Type 0 = λ x. HasCountOn x count in
-    let areas = path_areas (half_of width) (end_of pathtype) points in
+    let areas = path_areas (half_of width) end points in
     subst P (sym is) (record {
       pieces = λ mask. map (area_piece offset mask) areas;
-      gives = λ mask. refl;
+      gives = λ mask. record { end = end; ends = ends; are = refl };
       counted = λ mask. few_counted (map (area_piece offset mask) areas) count (same ∙ sym (length-map areas (area_piece offset mask))) low;
     })
 
@@ -153,9 +154,6 @@ nothing_counted (BoxShape offset layer boxtype) p q r = record { pieces = λ mas
 pub mask_counted : (tech : Tech) (e : Element) (mask count : ℕ) → mask_of tech e ≡ Some mask → HasCountOn e count → HasOwnCount tech e count
 mask_counted tech e mask count mapped h =
     record { pieces = h.pieces mask; own = own_some tech e mask (h.pieces mask) mapped (h.gives mask); counted = h.counted mask }
-
-pub unmapped_counted : (tech : Tech) (e : Element) → mask_of tech e ≡ None → HasOwnCount tech e 0
-unmapped_counted tech e unmapped = record { pieces = []; own = own_none tech e unmapped; counted = refl }
 
 -- ---- elements
 

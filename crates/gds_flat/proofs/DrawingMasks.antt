@@ -137,10 +137,6 @@ pub mask_low : (items : List Item) (count i : ℕ) (item : Item) → i < length 
     → item.mask < count
 mask_low items count i item below is all = let P : Item → Type 0 = λ x. x.mask < count in subst P (sym is) (all i item below)
 
-pub on_masks_all : (items : List Item) (count i : ℕ) (masks : List (List Rect)) → length items ≤ i → AreOnMasks (take i items) count masks
-    → AreOnMasks items count masks
-on_masks_all items count i masks over h = let P : List Item → Type 0 = λ xs. AreOnMasks xs count masks in subst P (take_all i items over) h
-
 -- the rectangles on a mask are those of its items
 head_rect : (b : Bool) (d : Drawn) (rest : List Rect) (q : Rect) → Among (cons_option (cond b (rect_of d) None) rest) q
     → ((b ≡ true) × (d ≡ Area q)) ⊎ Among rest q

@@ -21,7 +21,7 @@ pushed_entry (z ∷ xs) x zero y e = inl e
 pushed_entry (z ∷ xs) x (suc i) y e =
     ⊎_elim (λ h. inl h) (λ h. let p : suc i ≡ suc (length xs) = ap suc h.0 in inr (p, h.1)) (pushed_entry xs x i y e)
 
-set_here : {X : Type 0} (xs : List X) (i : ℕ) (x y : X) → slice_get xs i ≡ Some y → slice_get (set xs i x) i ≡ Some x
+pub set_here : {X : Type 0} (xs : List X) (i : ℕ) (x y : X) → slice_get xs i ≡ Some y → slice_get (set xs i x) i ≡ Some x
 set_here [] i x y e = cc
 set_here (z ∷ xs) zero x y e = refl
 set_here (z ∷ xs) (suc i) x y e = set_here xs i x y e
@@ -44,9 +44,6 @@ set_entry xs i j x old y was now =
     let same : x ≡ y = cc in inl (e, same))
     (λ ne. inr (ne, sym (set_there xs i j x ne) ∙ now))
     (cases_eq j i)
-
-pub set_now : {X : Type 0} (xs : List X) (i : ℕ) (x old : X) → slice_get xs i ≡ Some old → slice_get (set xs i x) i ≡ Some x
-set_now xs i x old was = set_here xs i x old was
 
 pub set_kept : {X : Type 0} (xs : List X) (i j : ℕ) (x y : X) → j ≢ i → slice_get xs j ≡ Some y → slice_get (set xs i x) j ≡ Some y
 set_kept xs i j x y ne was = set_there xs i j x ne ∙ was

@@ -8,7 +8,7 @@ use Rattle.std.proofs.lemmas.Bool.Decides.{nat_tests}
 use Rattle.rt_base.specs.declared.plane.Point.{Point}
 use Rattle.gds_flat.specs.Elements.{LeadTo, NoneLeads}
 
-rem_none : (d c : ℤ) → unsigned_abs d % unsigned_abs c ≡ 0 → int_rem d c ≡ pos 0
+pub rem_none : (d c : ℤ) → unsigned_abs d % unsigned_abs c ≡ 0 → int_rem d c ≡ pos 0
 rem_none (pos a) c even = ap pos even
 rem_none (negsuc a) c even = ap (λ n. neg_ℤ (pos n)) even
 

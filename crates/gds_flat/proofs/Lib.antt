@@ -18,7 +18,7 @@ pub mod PiecesLong
 pub mod Flattening
 pub mod PiecesTurn
 pub mod Counting
-pub mod BoundsOfShapes
+pub mod PiecesShown
 pub mod BoundsOfSteps
 pub mod BuildingSteps
 pub mod BuildingLists

@@ -7,7 +7,7 @@ use Rattle.gds_stream.specs.declared.library.Structure.{Structure}
 use Rattle.gds_flat.specs.declared.walk.Mark.{Mark}
 use Rattle.gds_flat.specs.declared.walk.Mark.TheVariants.{Unseen, Open, Done}
 use Rattle.gds_flat.specs.Walking.{IsFirst, AreMarked}
-use Rattle.gds_flat.proofs.Entries.{last_entry, old_entry, pushed_entry, set_entry, set_now, set_kept, places_differ}
+use Rattle.gds_flat.proofs.Entries.{last_entry, old_entry, pushed_entry, set_entry, set_here, set_kept, places_differ}
 
 -- a structure is reached
 pub mark_open : (library : List Structure) (opened : List ℕ) (marks : List Mark) (order finish : List ℕ) (k : ℕ)
@@ -26,7 +26,7 @@ mark_open library opened marks order finish k first was m = record {
   at_open = λ j d e. ⊎_elim
       (λ h. let was_open = m.at_open j d h in
       set_kept marks k j (Open (length opened)) (Open d) (places_differ marks j k (Open d) Unseen was_open was (λ e. cc)) was_open)
-      (λ h. let there : d ≡ length opened = h.0 in let is : k ≡ j = h.1 in rw (there, ← is) (set_now marks k (Open (length opened)) Unseen was))
+      (λ h. let there : d ≡ length opened = h.0 in let is : k ≡ j = h.1 in rw (there, ← is) (set_here marks k (Open (length opened)) Unseen was))
       (pushed_entry opened k d j e);
   done_at = λ j d e. ⊎_elim (λ h. cc) (λ h. m.done_at j d h.1) (cases j (Done d) e);
   at_done = λ j d e. let was_done = m.at_done j d e in
@@ -63,7 +63,7 @@ mark_done library opened marks order finish k m = record {
       (λ h. let was_done = m.at_done j d h in
       set_kept marks k j (Done (length finish)) (Done d) (places_differ marks j k (Done d) (Open (length opened)) was_done was (λ e. cc)) was_done)
       (λ h. let there : d ≡ length finish = h.0 in let is : k ≡ j = h.1 in
-      rw (there, ← is) (set_now marks k (Done (length finish)) (Open (length opened)) was))
+      rw (there, ← is) (set_here marks k (Done (length finish)) (Open (length opened)) was))
       (pushed_entry finish k d j e);
 }
   where

@@ -15,19 +15,26 @@ use Rattle.gds_stream.specs.declared.library.Element.TheVariants.{Boundary, Path
 use Rattle.gds_stream.specs.declared.library.Structure.{Structure}
 use Rattle.gds_stream.specs.declared.library.Place.{Place}
 use Rattle.gds_slabs.specs.declared.step.Step.{Step}
+use Rattle.gds_slabs.specs.declared.path.PathEnd.{PathEnd}
+use Rattle.gds_slabs.specs.Path.{path_areas, half_of}
 use Rattle.gds_slabs.proofs.Coverings.{slabs_are_one}
 use Rattle.gds_flat.specs.Reach.{Name}
-use Rattle.gds_flat.specs.Elements.{mask_of, LeadTo, point_at}
+use Rattle.gds_flat.specs.Elements.{mask_of, end_of, LeadTo, point_at}
 use Rattle.gds_flat.specs.Placing.{IsTurnOf, shift_of, AreStepsTo, array_shifts, AreArraySteps, StepsOf}
 use Rattle.gds_flat.specs.Items.PiecesOf.{none, own, placed}
 use Rattle.gds_flat.specs.Items.{Piece, area_piece, GivesOn, Own, all_moved, PiecesOf, Pieces}
 
 -- ---- what an element gives by itself
 
+-- a path of a type ends in one way
+pub ends_one : (end : Option PathEnd) (a b : PathEnd) → end ≡ Some a → end ≡ Some b → a ≡ b
+ends_one end a b g h = cc
+
 gives_one : (e : Element) (mask : ℕ) (a b : List Piece) → GivesOn e mask a → GivesOn e mask b → a ≡ b
 gives_one (Boundary offset layer datatype points) mask a b g h =
     g.are ∙ ap (map (area_piece offset mask)) (slabs_are_one points g.rects h.rects g.slabs h.slabs) ∙ sym h.are
-gives_one (Path offset layer datatype pathtype width points) mask a b g h = g ∙ sym h
+gives_one (Path offset layer datatype pathtype width points) mask a b g h =
+    g.are ∙ ap (λ e. map (area_piece offset mask) (path_areas (half_of width) e points)) (ends_one (end_of pathtype) g.end h.end g.ends h.ends) ∙ sym h.are
 gives_one (Sref offset name place at) mask a b g h = g ∙ sym h
 gives_one (Aref offset name place columns rows points) mask a b g h = g ∙ sym h
 gives_one (Label offset layer texttype at text) mask a b g h = g ∙ sym h

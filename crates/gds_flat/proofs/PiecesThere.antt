@@ -1,8 +1,8 @@
--- Elements that are fine have items, where what they place has.
-use Rattle.std.proofs.Common.{◌≡◌, ℕ, ◌-◌, ◌%◌, ◌^◌, ◌<◌, nat_le, ℤ, pos, negsuc, List, [], ◌∷◌, ◌++◌, map, Option, Some, None, MatchOption, All, Contains, unsigned_abs, refl, sym, ap, subst, ◌∙◌, ⊎_elim, append_assoc, arith}
+-- The steps of references, and the items of elements, one after another.
+use Rattle.std.proofs.Common.{◌≡◌, ℕ, ◌-◌, ◌%◌, ◌^◌, ◌<◌, nat_le, ℤ, pos, negsuc, List, [], ◌∷◌, ◌++◌, Option, Some, None, MatchOption, unsigned_abs, refl, sym, ap, subst, ◌∙◌, ⊎_elim, append_assoc, arith}
 use Rattle.std.specs.Int.{int_rem_euclid}
 use Rattle.std.proofs.lemmas.List.{append-nil}
-use Rattle.std.proofs.lemmas.List.Elements.{All-nil, All-cons, All-head, All-tail, Contains-append_left, Contains-append_right, filter_map-append}
+use Rattle.std.proofs.lemmas.List.Elements.{All-nil, All-cons}
 use Rattle.rt_tech.specs.declared.table.Tech.{Tech}
 use Rattle.gds_records.specs.Reals.{IsQuarterTurns}
 use Rattle.gds_stream.specs.declared.library.Element.{Element}
@@ -10,49 +10,20 @@ use Rattle.gds_stream.specs.declared.library.Element.TheVariants.{Boundary, Path
 use Rattle.gds_stream.specs.declared.library.Structure.{Structure}
 use Rattle.gds_stream.specs.declared.library.Place.{Place}
 use Rattle.gds_slabs.specs.declared.step.Step.{Step}
-use Rattle.gds_slabs.specs.Path.{path_areas, half_of}
-use Rattle.gds_slabs.proofs.Coverings.{has_slabs}
-use Rattle.gds_flat.specs.declared.error.Odd.TheVariants.{Angle, Slanted}
-use Rattle.gds_flat.specs.Reach.{Name, structure_named, target, references}
+use Rattle.gds_flat.specs.declared.error.Odd.TheVariants.{Angle}
+use Rattle.gds_flat.specs.Reach.{Name, target, references}
 use Rattle.gds_flat.specs.Elements.{pair_of, mask_of, IsWhole, Fine, point_at}
-use Rattle.gds_flat.specs.Placing.{IsTurnOf, AreStepsTo, array_shifts, StepsOf, end_of}
+use Rattle.gds_flat.specs.Placing.{IsTurnOf, AreStepsTo, array_shifts, StepsOf}
 use Rattle.gds_flat.specs.Items.PiecesOf.{none, own, placed}
-use Rattle.gds_flat.specs.Items.{Piece, area_piece, note_piece, GivesOn, Own, all_moved, PiecesOf, Pieces}
-use Rattle.gds_flat.specs.Drawn.{IsDrawable}
-use Rattle.gds_flat.proofs.Ranking.{placed_one}
+use Rattle.gds_flat.specs.Items.{Piece, GivesOn, Own, all_moved, PiecesOf, Pieces}
 
 -- ---- what an element gives by itself
-
-pub gives_there : (e : Element) (mask : ℕ) → IsWhole e → IsDrawable e → (a : List Piece) × GivesOn e mask a
-gives_there (Boundary offset layer datatype points) mask w d =
-    let s = has_slabs points d (w.plain Slanted) in
-    (map (area_piece offset mask) s.0, record { rects = s.0; slabs = s.1; are = refl })
-gives_there (Path offset layer datatype pathtype width points) mask w d =
-    (map (area_piece offset mask) (path_areas (half_of width) (end_of pathtype) points), refl)
-gives_there (Sref offset name place at) mask w d = ([], refl)
-gives_there (Aref offset name place columns rows points) mask w d = ([], refl)
-gives_there (Label offset layer texttype at text) mask w d = (note_piece offset mask at text ∷ [], refl)
-gives_there (BoxShape offset layer boxtype) mask w d = ([], refl)
-
--- an element without a mask gives nothing
-pub own_none : (tech : Tech) (e : Element) → mask_of tech e ≡ None → Own tech e []
-own_none tech e unmapped =
-    let P : Option ℕ → Type 0 = λ m. MatchOption m (◌≡◌ {A = List Piece} [] []) (λ mask. GivesOn e mask []) in
-    subst P (sym unmapped) refl
 
 -- one with a mask gives what it gives on it
 pub own_some : (tech : Tech) (e : Element) (mask : ℕ) (a : List Piece) → mask_of tech e ≡ Some mask → GivesOn e mask a → Own tech e a
 own_some tech e mask a mapped gives =
     let P : Option ℕ → Type 0 = λ m. MatchOption m (a ≡ []) (λ n. GivesOn e n a) in
     subst P (sym mapped) gives
-
-pub own_there : (tech : Tech) (e : Element) → Fine tech e → IsDrawable e → (a : List Piece) × Own tech e a
-own_there tech e fine d =
-    ⊎_elim (λ dropped. ([], own_none tech e dropped.unmapped)) (λ tested. on (mask_of tech e) tested.1) fine
-  where
-    on : (m : Option ℕ) → IsWhole e → (a : List Piece) × MatchOption m (a ≡ []) (λ mask. GivesOn e mask a)
-    on None w = ([], refl)
-    on (Some mask) w = gives_there e mask w d
 
 -- ---- steps
 
@@ -131,36 +102,3 @@ pub pieces_of_placed : (library : List Structure) (tech : Tech) (e : Element) (t
     → Pieces library tech to inner → StepsOf e steps → PiecesOf library tech (e ∷ []) (all_moved steps inner)
 pieces_of_placed library tech e to inner steps t p of =
     placed e to p.structure inner [] steps t p.found p.are of none (sym (append-nil (all_moved steps inner)))
-
--- each name that the elements place has items
-abbrev pub ArePlaced : List Structure → Tech → List Element → Type 0
-ArePlaced library tech es = (n : Name) → Contains (references es) n → (a : List Piece) × Pieces library tech n a
-
-element_there : (library : List Structure) (tech : Tech) (e : Element) → Fine tech e → IsDrawable e → ArePlaced library tech (e ∷ [])
-    → (a : List Piece) × PiecesOf library tech (e ∷ []) a
-element_there library tech e fine d places = by (target e) refl
-  where
-    by : (o : Option Name) → target e ≡ o → (a : List Piece) × PiecesOf library tech (e ∷ []) a
-    by None t = let o = own_there tech e fine d in (o.0, pieces_of_own library tech e o.0 t o.1)
-    by (Some n) t =
-        let s = steps_there e n t (whole_reference tech e n t fine) in
-        let p = places n (placed_one e n t) in
-        (all_moved s.0 p.0, pieces_of_placed library tech e n p.0 s.0 t p.1 s.1)
-
-pub pieces_of_there : (library : List Structure) (tech : Tech) (es : List Element) → All (Fine tech) es → All IsDrawable es → ArePlaced library tech es
-    → (a : List Piece) × PiecesOf library tech es a
-pieces_of_there library tech [] fine d places = ([], none)
-pieces_of_there library tech (e ∷ es) fine d places =
-    let both : references (e ∷ es) ≡ references (e ∷ []) ++ references es = filter_map-append target (e ∷ []) es in
-    let one = element_there library tech e (All-head (Fine tech) e es fine) (All-head IsDrawable e es d)
-    (λ n has. places n (rw both (Contains-append_left (references (e ∷ [])) (references es) n has))) in
-    let others = pieces_of_there library tech es (All-tail (Fine tech) e es fine) (All-tail IsDrawable e es d)
-    (λ n has. places n (rw both (Contains-append_right (references (e ∷ [])) (references es) n has))) in
-    (one.0 ++ others.0, pieces_of_join library tech one.1 others.1)
-
--- a structure whose elements are fine and drawable has items, if all that it places has
-pub pieces_there : (library : List Structure) (tech : Tech) (name : Name) (s : Structure) → structure_named library name ≡ Some s
-    → All (Fine tech) s.elements → All IsDrawable s.elements → ArePlaced library tech s.elements → (a : List Piece) × Pieces library tech name a
-pieces_there library tech name s found fine d places =
-    let r = pieces_of_there library tech s.elements fine d places in
-    (r.0, record { structure = s; found = found; are = r.1 })

@@ -141,10 +141,6 @@ depth_more library k depth first deepest =
         let has : Contains (references (elements_at library k)) n = rw (p.at) (subst P same refers.places) in
         omega (arith, deepest.most n names has chain.1)
 
--- nothing is placed
-pub deepest_none : (library : List Structure) → IsDeepest library [] 0
-deepest_none library = record { most = λ n names has chain. absurd (omega (arith, has.1)); some = inl refl }
-
 pub deepest_own : (library : List Structure) (e : Element) → target e ≡ None → IsDeepest library (e ∷ []) 0
 deepest_own library e none = record {
   most = λ n names has chain. let S : Option Name → Type 0 = λ o. Contains (cons_option o []) n in

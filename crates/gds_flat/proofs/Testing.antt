@@ -7,52 +7,39 @@ use Rattle.std.proofs.lemmas.Grind.{flat_map-append}
 use Rattle.rt_tech.specs.declared.table.Tech.{Tech}
 use Rattle.gds_stream.specs.declared.library.Element.{Element}
 use Rattle.gds_stream.specs.declared.library.Structure.{Structure}
-use Rattle.gds_flat.specs.declared.error.FlatError.{FlatError}
-use Rattle.gds_flat.specs.declared.error.FlatError.TheVariants.{Unsupported, NoSuchStructure, Cyclic, UnmappedLayer, ArrayStep, CoordinateRange, TooMany, TooDeep, OutOfMemory}
+use Rattle.gds_flat.specs.declared.error.ElementFault.{ElementFault}
 use Rattle.gds_flat.specs.declared.walk.Walk.{Walk}
 use Rattle.gds_flat.specs.Reach.{Name, structure_named, elements_of}
 use Rattle.gds_flat.specs.Walking.{name_at, names_at, elements_at, IsFirst}
 use Rattle.gds_flat.specs.Depths.{IsTree}
 use Rattle.gds_flat.specs.Refused.{elements_along}
 use Rattle.gds_flat.proofs.Going.{IsPlaced, placed}
-use Rattle.gds_flat.specs.Elements.{Fine, FaultOf, FirstFault, FormFault, IsTested}
+use Rattle.gds_flat.specs.Elements.{Fine, FaultOf, FirstFault}
 
 -- the first fault, behind elements that are fine
-pub first_fault : (tech : Tech) (elements : List Element) (i : ℕ) (e : Element) (error : FlatError) → i < length elements → e ≡ get_or elements i e
-    → All (Fine tech) (take i elements) → FaultOf tech e error → FirstFault tech elements error
-first_fault tech elements i e error below is fine fault = record {
+pub first_fault : (tech : Tech) (elements : List Element) (i : ℕ) (e : Element) (fault : ElementFault) → i < length elements → e ≡ get_or elements i e
+    → All (Fine tech) (take i elements) → FaultOf tech e fault → FirstFault tech elements fault
+first_fault tech elements i e fault below is fine at = record {
   before = take i elements;
   element = e;
   behind = drop (i + 1) elements;
   split = sym (take-append-drop i elements) ∙ ap (λ es. take i elements ++ es) (drop_more elements i e below ∙ ap (λ x. x ∷ drop (i + 1) elements) (sym is));
   fine = fine;
-  fault = fault;
+  at = at;
 }
 
 -- with elements before and behind
-pub fault_within : (tech : Tech) (before elements behind : List Element) (error : FlatError) → All (Fine tech) before → FirstFault tech elements error
-    → FirstFault tech (before ++ (elements ++ behind)) error
-fault_within tech before elements behind error fine f = record {
+pub fault_within : (tech : Tech) (before elements behind : List Element) (fault : ElementFault) → All (Fine tech) before → FirstFault tech elements fault
+    → FirstFault tech (before ++ (elements ++ behind)) fault
+fault_within tech before elements behind fault fine f = record {
   before = before ++ f.before;
   element = f.element;
   behind = f.behind ++ behind;
   split = ap (λ es. before ++ (es ++ behind)) f.split ∙ ap (λ es. before ++ es) (append_assoc f.before (f.element ∷ f.behind) behind)
       ∙ sym (append_assoc before f.before (f.element ∷ (f.behind ++ behind)));
   fine = All-append (Fine tech) before f.before fine f.fine;
-  fault = f.fault;
+  at = f.at;
 }
-
--- the fault of an element that isn't passed over
-pub form_fault : (tech : Tech) (e : Element) (error : FlatError) → IsTested tech e → FormFault e error → FaultOf tech e error
-form_fault tech e (Unsupported offset odd) tested f = record { tested = tested; first = f.0; at = f.1 }
-form_fault tech e (NoSuchStructure name) tested f = f
-form_fault tech e (Cyclic names) tested f = f
-form_fault tech e (UnmappedLayer layer number) tested f = absurd f
-form_fault tech e (ArrayStep offset) tested f = record { tested = tested; plain = f.0; fails = f.1; at = f.2 }
-form_fault tech e (CoordinateRange offset) tested f = f
-form_fault tech e (TooMany count) tested f = f
-form_fault tech e TooDeep tested f = f
-form_fault tech e OutOfMemory tested f = f
 
 -- one more element that is fine, and all of them
 pub fine_more : (tech : Tech) (elements : List Element) (i : ℕ) (e : Element) → i < length elements → e ≡ get_or elements i e
@@ -94,13 +81,13 @@ fine_along tech library places i es below first is fine more =
     ∙ ap (λ xs. elements_along library (names_at library (take i places)) ++ xs) (append-nil (elements_at library k) ∙ sym is) in
     subst P (sym all) (All-append (Fine tech) (elements_along library (names_at library (take i places))) es fine more)
 
-pub fault_along : (tech : Tech) (library : List Structure) (places : List ℕ) (i : ℕ) (es : List Element) (error : FlatError) → i < length places
+pub fault_along : (tech : Tech) (library : List Structure) (places : List ℕ) (i : ℕ) (es : List Element) (fault : ElementFault) → i < length places
     → IsFirst library (get_or places i 0) → es ≡ elements_at library (get_or places i 0)
-    → All (Fine tech) (elements_along library (names_at library (take i places))) → FirstFault tech es error
-    → FirstFault tech (elements_along library (names_at library places)) error
-fault_along tech library places i es error below first is fine fault =
+    → All (Fine tech) (elements_along library (names_at library (take i places))) → FirstFault tech es fault
+    → FirstFault tech (elements_along library (names_at library places)) fault
+fault_along tech library places i es fault below first is fine f =
     let k = get_or places i 0 in
-    let P : List Element → Type 0 = λ xs. FirstFault tech xs error in
+    let P : List Element → Type 0 = λ xs. FirstFault tech xs fault in
     let split : places ≡ take i places ++ k ∷ drop (i + 1) places =
     sym (take-append-drop i places) ∙ ap (λ ps. take i places ++ ps) (drop_more places i 0 below) in
     let all : elements_along library (names_at library places)
@@ -108,7 +95,7 @@ fault_along tech library places i es error below first is fine fault =
     ap (λ ps. elements_along library (names_at library ps)) split ∙ along_more library (take i places) (drop (i + 1) places) k first
     ∙ ap (λ xs. elements_along library (names_at library (take i places)) ++ (xs ++ elements_along library (names_at library (drop (i + 1) places)))) (sym is) in
     subst P (sym all) (fault_within tech (elements_along library (names_at library (take i places))) es
-    (elements_along library (names_at library (drop (i + 1) places))) error fine fault)
+    (elements_along library (names_at library (drop (i + 1) places))) fault fine f)
 
 pub fine_along_all : (tech : Tech) (library : List Structure) (places : List ℕ) (i : ℕ) → length places ≤ i
     → All (Fine tech) (elements_along library (names_at library (take i places))) → All (Fine tech) (elements_along library (names_at library places))

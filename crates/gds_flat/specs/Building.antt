@@ -15,9 +15,7 @@ use Rattle.gds_flat.specs.declared.item.Drawn.TheVariants.{Area}
 use Rattle.gds_flat.specs.declared.item.Item.{Item}
 use Rattle.gds_flat.specs.Reach.{Name, references, Chain, Shallow}
 use Rattle.gds_flat.specs.Elements.{Fine, AreSteps, point_at}
-use Rattle.gds_slabs.specs.Path.{path_areas, half_of}
-use Rattle.gds_flat.specs.Placing.{end_of}
-use Rattle.gds_flat.specs.Items.{Drawing, area_of, note_at, Piece, area_piece, note_piece, all_moved, PiecesOf, Pieces}
+use Rattle.gds_flat.specs.Items.{Drawing, area_of, note_at, Piece, note_piece, all_moved, PiecesOf, Pieces}
 use Rattle.gds_flat.specs.Drawn.{pieces_in, IsDrawable}
 use Rattle.gds_flat.specs.Walking.{name_at, elements_at, IsFirst}
 use Rattle.gds_flat.specs.Depths.{PlaceOnly}
@@ -28,10 +26,6 @@ pub record SpotWithin (reach : ℤ) (at : ℤ × ℤ) : Type 0 where
   pub right : at.0 ≤ℤ reach
   pub down : neg_ℤ reach ≤ℤ at.1
   pub up : at.1 ≤ℤ reach
-
--- the point of a stream is, as its numbers of 32 bits are
-pub record IsNearPoint (p : Point) : Type 0 where
-  pub at : SpotWithin (pos (2 ^ 31)) (p.x, p.y)
 
 -- the drawing is at most so far from the axes
 abbrev pub DrawingWithin : ℤ → Drawing → Type 0
@@ -84,11 +78,6 @@ pub record Appends (so : List Piece → Type 0) (old new : List Item) : Type 0 w
 pub record AreNearAnd (so : List Piece → Type 0) (pieces : List Piece) : Type 0 where
   pub are : so pieces
   pub near : All (PieceWithin (reach_of 0)) pieces
-
--- the pieces are the rectangles of the path
-abbrev pub ArePathPieces : ℕ → ℕ → ℤ → ℤ → List Point → List Piece → Type 0
-ArePathPieces offset mask pathtype width points pieces =
-    pieces ≡ map (area_piece offset mask) (path_areas (half_of width) (end_of pathtype) points)
 
 -- the piece is the label
 abbrev pub IsNotePiece : ℕ → ℕ → Point → List ℕ → List Piece → Type 0

@@ -1,5 +1,5 @@
 -- What a layout draws of the pieces of a flat cell, and what a walk that is accepted shows.
-use Rattle.std.specs.Prelude.{◌≡◌, ℕ, ◌<◌, ◌↔◌, ℤ, nat_eq, cond, List, [], length, map, Option, Some, None, slice_index_or, All, Contains}
+use Rattle.std.specs.Prelude.{◌≡◌, ℕ, ◌<◌, ◌↔◌, ℤ, nat_eq, cond, List, [], ◌≤◌, length, map, Option, Some, None, slice_index_or, All, Contains}
 use Rattle.std.specs.List.{filter_map}
 use Rattle.rt_base.specs.declared.plane.Rect.{Rect}
 use Rattle.rt_base.specs.Plane.{area}
@@ -12,15 +12,14 @@ use Rattle.gds_flat.specs.declared.item.Drawn.{Drawn}
 use Rattle.gds_flat.specs.declared.item.Drawn.TheVariants.{Area, Note}
 use Rattle.gds_flat.specs.declared.item.Item.{Item}
 use Rattle.gds_flat.specs.declared.walk.Walk.{Walk}
-use Rattle.gds_flat.specs.declared.error.FlatError.{FlatError}
-use Rattle.gds_flat.specs.declared.error.FlatError.TheVariants.{Unsupported, NoSuchStructure, Cyclic, UnmappedLayer, ArrayStep, CoordinateRange, TooMany, TooDeep, OutOfMemory}
+use Rattle.gds_flat.specs.declared.limits.TheConstants.{MOST_ITEMS}
 use Rattle.gds_flat.specs.Reach.{Name, Shallow}
 use Rattle.gds_flat.specs.Elements.{Fine}
-use Rattle.gds_flat.specs.Items.{Piece, marks_of, areas_on, FirstFar}
+use Rattle.gds_flat.specs.Items.{Piece, Pieces, marks_of, areas_on}
 use Rattle.gds_flat.specs.Items.Drawing.{area_of}
 use Rattle.gds_flat.specs.Walking.{names_at}
 use Rattle.gds_flat.specs.Depths.{IsTree}
-use Rattle.gds_flat.specs.Refused.{elements_along}
+use Rattle.gds_flat.specs.Refused.{elements_along, Accepted}
 
 -- the piece is a rectangle on the mask that holds the cell
 pub record Shows (m : ℕ) (cell : ℤ × ℤ) (piece : Piece) : Type 0 where
@@ -58,17 +57,11 @@ pub record Draws (pieces : List Piece) (count : ℕ) (layout : Layout) : Type 0 
   pub cells : (m : ℕ) (x y : ℤ) → MaskCovers layout m x y ↔ OneShows pieces m (x, y)
   pub rectangles : (m : ℕ) → map area (rectangles_of layout m) ≡ areas_on m pieces
 
--- when drawing is refused: the first piece that lies too far out
-abbrev pub DrawingRefused : List Piece → FlatError → Type 0
-DrawingRefused pieces (Unsupported offset odd) = ⊥
-DrawingRefused pieces (NoSuchStructure name) = ⊥
-DrawingRefused pieces (Cyclic names) = ⊥
-DrawingRefused pieces (UnmappedLayer layer number) = ⊥
-DrawingRefused pieces (ArrayStep offset) = ⊥
-DrawingRefused pieces (CoordinateRange offset) = FirstFar pieces offset
-DrawingRefused pieces (TooMany count) = ⊥
-DrawingRefused pieces TooDeep = ⊥
-DrawingRefused pieces OutOfMemory = Unit {0}
+-- the pieces are those of the structure of the name, which is accepted, and they are no more than are taken
+pub record AreFewPieces (library : List Structure) (top : Name) (tech : Tech) (pieces : List Piece) : Type 0 where
+  pub accepted : Accepted library top tech
+  pub are : Pieces library tech top pieces
+  pub few : length pieces ≤ MOST_ITEMS
 
 -- a walk without a circle that isn't too deep, and all that it reaches is fine
 pub record IsAcceptedWalk (library : List Structure) (top : Name) (tech : Tech) (walk : Walk) : Type 0 where

@@ -1,6 +1,5 @@
 -- Items as the code holds them, what elements must be for their items to be found, and how many items there are.
 use Rattle.std.specs.Prelude.{◌≡◌, ℕ, ◌-◌, ◌^◌, ◌≤◌, min, List, length, map, Some, slice_get, All}
-use Rattle.rt_base.specs.declared.plane.Point.{Point}
 use Rattle.rt_base.specs.Plane.{area}
 use Rattle.rt_tech.specs.declared.table.Tech.{Tech}
 use Rattle.gds_stream.specs.declared.library.Element.{Element}
@@ -10,6 +9,7 @@ use Rattle.gds_slabs.specs.Polygon.{IsClosed}
 use Rattle.gds_flat.specs.declared.item.Drawn.{Drawn}
 use Rattle.gds_flat.specs.declared.item.Drawn.TheVariants.{Area, Note}
 use Rattle.gds_flat.specs.declared.item.Item.{Item}
+use Rattle.gds_flat.specs.declared.limits.TheConstants.{MOST_ITEMS}
 use Rattle.gds_flat.specs.Reach.{Name}
 use Rattle.gds_flat.specs.Items.{Drawing, area_of, note_at, Piece, Pieces}
 use Rattle.gds_flat.specs.Walking.{name_at}
@@ -50,11 +50,11 @@ pub record HasCount (library : List Structure) (tech : Tech) (name : Name) (coun
   pub are : Pieces library tech name pieces
   pub counted : IsCount pieces count
 
--- the structure of the name has a count, of at most 50,000
+-- the structure of the name has a count, which is taken
 pub record HasFew (library : List Structure) (tech : Tech) (name : Name) : Type 0 where
   pub count : ℕ
   pub has : HasCount library tech name count
-  pub few : count ≤ 50000
+  pub few : count ≤ MOST_ITEMS
 
 -- the counts of the structures of the finish, in its order
 pub record AreCounts (library : List Structure) (tech : Tech) (finish counts : List ℕ) : Type 0 where

@@ -1,21 +1,23 @@
 -- Elements on the masks of a table: which are passed over, which are odd, and in which an array has no whole steps.
-use Rattle.std.specs.Prelude.{◌≡◌, ◌≢◌, ℕ, ◌<◌, ◌⊎◌, ℤ, pos, negsuc, ◌-ℤ◌, ◌*ℤ◌, ◌<ℤ◌, ◌≤ℤ◌, Bool, true, false, ◌&&◌, ◌||◌, List, ◌∷◌, ◌++◌, slice_index_or, Option, Some, None, MatchOption, position, IsSome, All, bit_and}
-use Rattle.std.specs.List.{list_any}
+use Rattle.std.specs.Prelude.{◌≡◌, ◌≢◌, ℕ, ◌<◌, ◌⊎◌, ℤ, pos, ◌-ℤ◌, ◌*ℤ◌, ◌<ℤ◌, ◌≤ℤ◌, Bool, true, false, ◌||◌, List, ◌∷◌, ◌++◌, slice_index_or, Option, Some, None, MatchOption, position, IsSome, All, bit_and, if◌then◌else◌}
 use Rattle.std.specs.Option.{option_map_or}
 use Rattle.std.specs.Ordering.{int_eq}
 use Rattle.rt_base.specs.declared.plane.Point.{Point}
 use Rattle.rt_tech.specs.declared.table.Mask.{Mask}
 use Rattle.rt_tech.specs.declared.table.Tech.{Tech}
+use Rattle.rt_tech.specs.Words.{same_pair, is_ignored}
 use Rattle.gds_records.specs.Reals.{IsReal, IsQuarterTurns}
 use Rattle.gds_stream.specs.declared.library.Element.{Element}
 use Rattle.gds_stream.specs.declared.library.Element.TheVariants.{Boundary, Path, Sref, Aref, Label, BoxShape}
 use Rattle.gds_stream.specs.declared.library.Place.{Place}
 use Rattle.gds_slabs.specs.Polygon.{IsSlanted}
 use Rattle.gds_slabs.specs.Path.{IsPathWidth}
+use Rattle.gds_slabs.specs.declared.path.PathEnd.{PathEnd}
+use Rattle.gds_slabs.specs.declared.path.PathEnd.TheVariants.{Flush, Square}
 use Rattle.gds_flat.specs.declared.error.Odd.{Odd}
 use Rattle.gds_flat.specs.declared.error.Odd.TheVariants.{PathType, PathWidth, BoxElement, Magnification, Angle, Absolute, Slanted}
-use Rattle.gds_flat.specs.declared.error.FlatError.{FlatError}
-use Rattle.gds_flat.specs.declared.error.FlatError.TheVariants.{Unsupported, NoSuchStructure, Cyclic, UnmappedLayer, ArrayStep, CoordinateRange, TooMany, TooDeep, OutOfMemory}
+use Rattle.gds_flat.specs.declared.error.ElementFault.{ElementFault}
+use Rattle.gds_flat.specs.declared.error.ElementFault.TheVariants.{Unmapped, Oddity, Steps}
 
 -- the place of an element's first byte in the stream
 abbrev pub offset_of : Element → ℕ
@@ -35,10 +37,6 @@ pair_of (Aref offset name place columns rows points) = None
 pair_of (Label offset layer texttype at text) = Some (layer, texttype)
 pair_of (BoxShape offset layer boxtype) = Some (layer, boxtype)
 
--- the two pairs are one
-abbrev pub same_pair : ℤ × ℤ → ℤ × ℤ → Bool
-same_pair p q = int_eq p.0 q.0 && int_eq p.1 q.1
-
 -- the first mask whose shapes have the pair
 abbrev pub mask_of_shapes : List Mask → ℤ × ℤ → Option ℕ
 mask_of_shapes masks pair = position (λ mask. same_pair (mask.layer, mask.datatype) pair) masks
@@ -55,10 +53,6 @@ mask_of tech (Sref offset name place at) = None
 mask_of tech (Aref offset name place columns rows points) = None
 mask_of tech (Label offset layer texttype at text) = mask_of_notes tech.masks (layer, texttype)
 mask_of tech (BoxShape offset layer boxtype) = mask_of_shapes tech.masks (layer, boxtype)
-
--- one of the pairs is the pair, or its layer with -1, which is every number
-abbrev pub is_ignored : List (ℤ × ℤ) → ℤ × ℤ → Bool
-is_ignored ignored pair = list_any (λ p. int_eq p.0 pair.0 && (int_eq p.1 pair.1 || int_eq p.1 (negsuc 0))) ignored
 
 -- the table passes over the pair, if no mask has it: it passes over all such pairs, or ignores this one
 abbrev pub is_passed_over : Tech → ℤ × ℤ → Bool
@@ -80,6 +74,10 @@ pub record IsUnmapped (tech : Tech) (pair : ℤ × ℤ) (element : Element) : Ty
 -- the element is a reference, or has a mask
 abbrev pub IsTested : Tech → Element → Type 0
 IsTested tech element = (pair_of element ≡ None) ⊎ IsSome (mask_of tech element)
+
+-- how a path of the type ends: type 0 at its points, type 2 half its width beyond them; no other type is taken
+abbrev pub end_of : ℤ → Option PathEnd
+end_of pathtype = if int_eq pathtype (pos 0) then Some Flush else if int_eq pathtype (pos 2) then Some Square else None
 
 -- the place of an odd in the order of the tests
 abbrev pub rank : Odd → ℕ
@@ -103,13 +101,13 @@ PointsLack points _ = Unit {0}
 
 -- a path of this type, width and points has the odd
 abbrev pub PathHas : ℤ → ℤ → List Point → Odd → Type 0
-PathHas pathtype width points PathType = (pathtype ≢ pos 0) × (pathtype ≢ pos 2)
+PathHas pathtype width points PathType = end_of pathtype ≡ None
 PathHas pathtype width points PathWidth = ¬ IsPathWidth width
 PathHas pathtype width points other = PointsHave points other
 
 -- it lacks the odd
 abbrev pub PathLacks : ℤ → ℤ → List Point → Odd → Type 0
-PathLacks pathtype width points PathType = (pathtype ≡ pos 0) ⊎ (pathtype ≡ pos 2)
+PathLacks pathtype width points PathType = (end : PathEnd) × (end_of pathtype ≡ Some end)
 PathLacks pathtype width points PathWidth = IsPathWidth width
 PathLacks pathtype width points other = PointsLack points other
 
@@ -232,35 +230,17 @@ pub record FailsAt (tech : Tech) (element : Element) (offset : ℕ) : Type 0 whe
   pub fails : StepFails element
   pub at : offset ≡ offset_of element
 
--- the refusal is that of the element
-abbrev pub FaultOf : Tech → Element → FlatError → Type 0
-FaultOf tech element (Unsupported offset odd) = IsOddAt tech element offset odd
-FaultOf tech element (NoSuchStructure name) = ⊥
-FaultOf tech element (Cyclic names) = ⊥
-FaultOf tech element (UnmappedLayer layer number) = IsUnmapped tech (layer, number) element
-FaultOf tech element (ArrayStep offset) = FailsAt tech element offset
-FaultOf tech element (CoordinateRange offset) = ⊥
-FaultOf tech element (TooMany count) = ⊥
-FaultOf tech element TooDeep = ⊥
-FaultOf tech element OutOfMemory = ⊥
+-- the fault is that of the element
+abbrev pub FaultOf : Tech → Element → ElementFault → Type 0
+FaultOf tech element (Unmapped layer number) = IsUnmapped tech (layer, number) element
+FaultOf tech element (Oddity offset odd) = IsOddAt tech element offset odd
+FaultOf tech element (Steps offset) = FailsAt tech element offset
 
--- the refusal is that of the first element that isn't fine
-pub record FirstFault (tech : Tech) (elements : List Element) (error : FlatError) : Type 0 where
+-- the fault is that of the first element that isn't fine
+pub record FirstFault (tech : Tech) (elements : List Element) (fault : ElementFault) : Type 0 where
   pub before : List Element
   pub element : Element
   pub behind : List Element
   pub split : elements ≡ before ++ element ∷ behind
   pub fine : All (Fine tech) before
-  pub fault : FaultOf tech element error
-
--- the refusal is that of the element, for its odd or its steps
-abbrev pub FormFault : Element → FlatError → Type 0
-FormFault element (Unsupported offset odd) = FirstOdd element odd × (offset ≡ offset_of element)
-FormFault element (NoSuchStructure name) = ⊥
-FormFault element (Cyclic names) = ⊥
-FormFault element (UnmappedLayer layer number) = ⊥
-FormFault element (ArrayStep offset) = Plain element × StepFails element × (offset ≡ offset_of element)
-FormFault element (CoordinateRange offset) = ⊥
-FormFault element (TooMany count) = ⊥
-FormFault element TooDeep = ⊥
-FormFault element OutOfMemory = ⊥
+  pub at : FaultOf tech element fault

@@ -12,12 +12,14 @@ use Rattle.gds_stream.specs.declared.library.Element.{Element}
 use Rattle.gds_stream.specs.declared.library.Element.TheVariants.{Boundary, Path, Sref, Aref, Label, BoxShape}
 use Rattle.gds_stream.specs.declared.library.Structure.{Structure}
 use Rattle.gds_slabs.specs.declared.step.Step.{Step}
+use Rattle.gds_slabs.specs.declared.path.PathEnd.{PathEnd}
 use Rattle.gds_slabs.specs.Slabs.{IsSlabs}
 use Rattle.gds_slabs.specs.Path.{path_areas, half_of}
 use Rattle.gds_slabs.specs.Steps.{moved_point, moved_rect}
+use Rattle.gds_flat.specs.declared.limits.TheConstants.{FARTHEST}
 use Rattle.gds_flat.specs.Reach.{Name, structure_named, target}
-use Rattle.gds_flat.specs.Elements.{mask_of}
-use Rattle.gds_flat.specs.Placing.{StepsOf, end_of, Covered}
+use Rattle.gds_flat.specs.Elements.{mask_of, end_of}
+use Rattle.gds_flat.specs.Placing.{StepsOf, Covered}
 
 -- what an item draws: a rectangle, or a text at a point
 pub data Drawing : Type 0 where
@@ -44,11 +46,17 @@ pub record AreSlabPieces (offset mask : ℕ) (points : List Point) (pieces : Lis
   pub slabs : IsSlabs points rects
   pub are : pieces ≡ map (area_piece offset mask) rects
 
+-- the rectangles of a path as items
+pub record ArePathPieces (offset mask : ℕ) (pathtype width : ℤ) (points : List Point) (pieces : List Piece) : Type 0 where
+  pub end : PathEnd
+  pub ends : end_of pathtype ≡ Some end
+  pub are : pieces ≡ map (area_piece offset mask) (path_areas (half_of width) end points)
+
 -- the items that an element on the mask gives by itself
 abbrev pub GivesOn : Element → ℕ → List Piece → Type 0
 GivesOn (Boundary offset layer datatype points) mask pieces = AreSlabPieces offset mask points pieces
 GivesOn (Path offset layer datatype pathtype width points) mask pieces =
-    pieces ≡ map (area_piece offset mask) (path_areas (half_of width) (end_of pathtype) points)
+    ArePathPieces offset mask pathtype width points pieces
 GivesOn (Sref offset name place at) mask pieces = pieces ≡ []
 GivesOn (Aref offset name place columns rows points) mask pieces = pieces ≡ []
 GivesOn (Label offset layer texttype at text) mask pieces = pieces ≡ note_piece offset mask at text ∷ []
@@ -118,9 +126,9 @@ pub record Flat (library : List Structure) (tech : Tech) (name : Name) (layout :
   pub cells : (m : ℕ) (x y : ℤ) → MaskCovers layout m x y ↔ Covered library tech name m (x, y)
   pub rectangles : (m : ℕ) → map area (rectangles_of layout m) ≡ areas_on m pieces
 
--- the magnitude is at most 10^9
+-- the magnitude is at most the farthest that is taken
 abbrev pub IsNear : ℤ → Type 0
-IsNear z = unsigned_abs z ≤ 1000000000
+IsNear z = unsigned_abs z ≤ FARTHEST
 
 -- the coordinates of the drawing are near
 abbrev pub DrawingIsNear : Drawing → Type 0

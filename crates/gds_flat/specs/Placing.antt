@@ -1,8 +1,6 @@
 -- Where references place what they name, and what a structure covers with all that it places.
 use Rattle.std.specs.Prelude.{◌≡◌, ℕ, ◌^◌, ℤ, pos, ◌+ℤ◌, ◌*ℤ◌, nat_le, List, [], ◌∷◌, map, Some, All, Contains, unsigned_abs}
 use Rattle.std.specs.List.{flat_map, range_with_len}
-use Rattle.std.specs.Ordering.{int_eq}
-use Rattle.std.specs.Prelude.{if◌then◌else◌}
 use Rattle.rt_base.specs.declared.plane.Point.{Point}
 use Rattle.rt_cells.specs.Rectangles.{Rectangle, Holds}
 use Rattle.rt_tech.specs.declared.table.Tech.{Tech}
@@ -13,12 +11,11 @@ use Rattle.gds_stream.specs.declared.library.Structure.{Structure}
 use Rattle.gds_stream.specs.declared.library.Place.{Place}
 use Rattle.gds_slabs.specs.declared.step.Step.{Step}
 use Rattle.gds_slabs.specs.declared.path.PathEnd.{PathEnd}
-use Rattle.gds_slabs.specs.declared.path.PathEnd.TheVariants.{Flush, Square}
 use Rattle.gds_slabs.specs.Polygon.{Inside}
 use Rattle.gds_slabs.specs.Path.{PathArea, half_of}
 use Rattle.gds_slabs.specs.Steps.{moved_cell}
 use Rattle.gds_flat.specs.Reach.{Name, structure_named, target}
-use Rattle.gds_flat.specs.Elements.{mask_of, AreSteps, point_at}
+use Rattle.gds_flat.specs.Elements.{mask_of, end_of, AreSteps, point_at}
 
 -- the step turns as the place says: the first bit of its flags reflects
 pub record IsTurnOf (place : Place) (step : Step) : Type 0 where
@@ -60,13 +57,13 @@ StepsOf (Aref offset name place columns rows points) steps = AreArraySteps place
 StepsOf (Label offset layer texttype at text) steps = ⊥
 StepsOf (BoxShape offset layer boxtype) steps = ⊥
 
--- how a path of the type ends: with squares, but for type 0
-abbrev pub end_of : ℤ → PathEnd
-end_of pathtype = if int_eq pathtype (pos 0) then Flush else Square
-
 -- a path covers the cell: one of its rectangles holds it
-abbrev pub PathCovers : ℤ → ℤ → List Point → ℤ × ℤ → Type 0
-PathCovers pathtype width points cell = (r : Rectangle) × PathArea (half_of width) (end_of pathtype) points r × Holds r cell.0 cell.1
+pub record PathCovers (pathtype width : ℤ) (points : List Point) (cell : ℤ × ℤ) : Type 0 where
+  pub end : PathEnd
+  pub ends : end_of pathtype ≡ Some end
+  pub rect : Rectangle
+  pub of : PathArea (half_of width) end points rect
+  pub holds : Holds rect cell.0 cell.1
 
 -- the element by itself covers the cell
 abbrev pub ElementCovers : Element → ℤ × ℤ → Type 0

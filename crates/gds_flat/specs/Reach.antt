@@ -4,6 +4,7 @@ use Rattle.std.specs.List.{filter_map}
 use Rattle.gds_stream.specs.declared.library.Element.{Element}
 use Rattle.gds_stream.specs.declared.library.Element.TheVariants.{Boundary, Path, Sref, Aref, Label, BoxShape}
 use Rattle.gds_stream.specs.declared.library.Structure.{Structure}
+use Rattle.gds_flat.specs.declared.limits.TheConstants.{DEEPEST}
 
 -- a structure's name: its bytes
 abbrev pub Name : Type 0
@@ -103,12 +104,12 @@ pub record Acyclic (library : List Structure) (order : List Name) : Type 0 where
   pub all : All (Contains finish) order
   pub only : All (Contains order) finish
 
--- no chain from the name has more than 64 names
+-- no chain from the name has more names than the deepest that is taken
 abbrev pub Shallow : List Structure → Name → Type 0
-Shallow library top = (names : List Name) → Chain library top names → length names < 64
+Shallow library top = (names : List Name) → Chain library top names → length names < DEEPEST
 
--- a chain of 65 names from this one
+-- a chain of one name more, from this one
 pub record Deep (library : List Structure) (top : Name) : Type 0 where
   pub others : List Name
-  pub many : length others ≡ 64
+  pub many : length others ≡ DEEPEST
   pub chain : Chain library top others

@@ -5,8 +5,13 @@ use Rattle.rt_tech.specs.declared.table.Tech.{Tech}
 use Rattle.rt_layout.specs.declared.layout.Layout.{Layout}
 use Rattle.gds_stream.specs.declared.library.Element.{Element}
 use Rattle.gds_stream.specs.declared.library.Structure.{Structure}
+use Rattle.gds_flat.specs.declared.error.ElementFault.{ElementFault}
+use Rattle.gds_flat.specs.declared.error.ElementFault.TheVariants.{Unmapped, Oddity, Steps}
+use Rattle.gds_flat.specs.declared.error.Stop.{Stop}
+use Rattle.gds_flat.specs.declared.error.Stop.TheVariants.{Unnamed, NoMemory}
 use Rattle.gds_flat.specs.declared.error.FlatError.{FlatError}
 use Rattle.gds_flat.specs.declared.error.FlatError.TheVariants.{Unsupported, NoSuchStructure, Cyclic, UnmappedLayer, ArrayStep, CoordinateRange, TooMany, TooDeep, OutOfMemory}
+use Rattle.gds_flat.specs.declared.limits.TheConstants.{MOST_ITEMS}
 use Rattle.gds_flat.specs.Reach.{Name, structure_named, elements_of, Order, Missing, IsCycle, Acyclic, Shallow, Deep}
 use Rattle.gds_flat.specs.Elements.{Fine, FirstFault}
 use Rattle.gds_flat.specs.Items.{Piece, Pieces, DrawingIsNear, Flat, FirstFar}
@@ -38,61 +43,60 @@ pub record HasCycle (library : List Structure) (top : Name) (names : List Name) 
   pub cycle : IsCycle library names
   pub on : Contains order cycle.start
 
--- no circle, but a chain of 65 names
+-- no circle, but a chain that is too long
 pub record IsTooDeep (library : List Structure) (top : Name) : Type 0 where
   pub order : List Name
   pub reached : IsReached library top order
   pub acyclic : Acyclic library order
   pub deep : Deep library top
 
--- the refusal is that of the first element that isn't fine, in a sound library
-pub record IsFaulty (library : List Structure) (top : Name) (tech : Tech) (error : FlatError) : Type 0 where
+-- the fault is that of the first element that isn't fine, in a sound library
+pub record IsFaulty (library : List Structure) (top : Name) (tech : Tech) (fault : ElementFault) : Type 0 where
   pub sound : IsSound library top
-  pub first : FirstFault tech (elements_along library sound.order) error
+  pub first : FirstFault tech (elements_along library sound.order) fault
 
--- more than 50,000 items
+-- more items than are taken
 pub record IsTooMany (library : List Structure) (top : Name) (tech : Tech) (count : ℕ) : Type 0 where
   pub accepted : Accepted library top tech
   pub pieces : List Piece
   pub are : Pieces library tech top pieces
-  pub many : 50000 < length pieces
+  pub many : MOST_ITEMS < length pieces
   pub counted : count ≡ min (length pieces) (2 ^ 64 - 1)
 
--- at most 50,000 items, and the first that lies too far out is of the element at the offset
+-- no more items than are taken, and the first that lies too far out is of the element at the offset
 pub record IsTooFar (library : List Structure) (top : Name) (tech : Tech) (offset : ℕ) : Type 0 where
   pub accepted : Accepted library top tech
   pub pieces : List Piece
   pub are : Pieces library tech top pieces
-  pub few : length pieces ≤ 50000
+  pub few : length pieces ≤ MOST_ITEMS
   pub far : FirstFar pieces offset
+
+-- the refusal for the fault of an element
+abbrev pub refusal_of : ElementFault → FlatError
+refusal_of (Unmapped layer number) = UnmappedLayer layer number
+refusal_of (Oddity offset odd) = Unsupported offset odd
+refusal_of (Steps offset) = ArrayStep offset
+
+-- the refusal where a walk stops
+abbrev pub refusal_to : Stop → FlatError
+refusal_to (Unnamed name) = NoSuchStructure name
+refusal_to NoMemory = OutOfMemory
 
 -- when each refusal comes
 abbrev pub FlatRefused : List Structure → Name → Tech → FlatError → Type 0
-FlatRefused library top tech (Unsupported offset odd) = IsFaulty library top tech (Unsupported offset odd)
+FlatRefused library top tech (Unsupported offset odd) = IsFaulty library top tech (Oddity offset odd)
 FlatRefused library top tech (NoSuchStructure name) = Missing library [] (top ∷ []) name
 FlatRefused library top tech (Cyclic names) = HasCycle library top names
-FlatRefused library top tech (UnmappedLayer layer number) = IsFaulty library top tech (UnmappedLayer layer number)
-FlatRefused library top tech (ArrayStep offset) = IsFaulty library top tech (ArrayStep offset)
+FlatRefused library top tech (UnmappedLayer layer number) = IsFaulty library top tech (Unmapped layer number)
+FlatRefused library top tech (ArrayStep offset) = IsFaulty library top tech (Steps offset)
 FlatRefused library top tech (CoordinateRange offset) = IsTooFar library top tech offset
 FlatRefused library top tech (TooMany count) = IsTooMany library top tech count
 FlatRefused library top tech TooDeep = IsTooDeep library top
 FlatRefused library top tech OutOfMemory = Unit {0}
 
--- the layout is the flat cell, of at most 50,000 items, none of which lies too far out
+-- the layout is the flat cell, of no more items than are taken, none of which lies too far out
 pub record IsFlattened (library : List Structure) (top : Name) (tech : Tech) (layout : Layout) : Type 0 where
   pub accepted : Accepted library top tech
   pub flat : Flat library tech top layout
-  pub few : length flat.pieces ≤ 50000
+  pub few : length flat.pieces ≤ MOST_ITEMS
   pub near : All (λ p. DrawingIsNear p.drawing) flat.pieces
-
--- the refusal is that of a circle
-abbrev pub CycleRefused : List Structure → Name → FlatError → Type 0
-CycleRefused library top (Unsupported offset odd) = ⊥
-CycleRefused library top (NoSuchStructure name) = ⊥
-CycleRefused library top (Cyclic names) = HasCycle library top names
-CycleRefused library top (UnmappedLayer layer number) = ⊥
-CycleRefused library top (ArrayStep offset) = ⊥
-CycleRefused library top (CoordinateRange offset) = ⊥
-CycleRefused library top (TooMany count) = ⊥
-CycleRefused library top TooDeep = ⊥
-CycleRefused library top OutOfMemory = Unit {0}

@@ -6,8 +6,8 @@ use Rattle.gds_flat.specs.declared.walk.Mark.{Mark}
 use Rattle.gds_flat.specs.declared.walk.Mark.TheVariants.{Unseen, Open, Done}
 use Rattle.gds_flat.specs.declared.walk.Frame.{Frame}
 use Rattle.gds_flat.specs.declared.walk.Walk.{Walk}
-use Rattle.gds_flat.specs.declared.error.FlatError.{FlatError}
-use Rattle.gds_flat.specs.declared.error.FlatError.TheVariants.{Unsupported, NoSuchStructure, Cyclic, UnmappedLayer, ArrayStep, CoordinateRange, TooMany, TooDeep, OutOfMemory}
+use Rattle.gds_flat.specs.declared.error.Stop.{Stop}
+use Rattle.gds_flat.specs.declared.error.Stop.TheVariants.{Unnamed, NoMemory}
 use Rattle.gds_flat.specs.Reach.{Name, name_of, elements_of, place_named, references, Order, Missing, Chain, IsCycle, Ranked}
 
 -- the name of the structure at the place
@@ -120,17 +120,10 @@ work_open library (f ∷ frames) = (1 + length (elements_left library f)) + work
 abbrev pub work_left : List Structure → List Frame → List Mark → ℕ
 work_left library frames marks = work_open library frames + work_unseen marks library
 
--- when a walk stops
-abbrev pub StopsWith : List Structure → Name → FlatError → Type 0
-StopsWith library top (Unsupported offset odd) = ⊥
-StopsWith library top (NoSuchStructure name) = Missing library [] (top ∷ []) name
-StopsWith library top (Cyclic names) = ⊥
-StopsWith library top (UnmappedLayer layer number) = ⊥
-StopsWith library top (ArrayStep offset) = ⊥
-StopsWith library top (CoordinateRange offset) = ⊥
-StopsWith library top (TooMany count) = ⊥
-StopsWith library top TooDeep = ⊥
-StopsWith library top OutOfMemory = Unit {0}
+-- when a walk stops: at a name that no structure has, or for want of memory
+abbrev pub StopsWith : List Structure → Name → Stop → Type 0
+StopsWith library top (Unnamed name) = Missing library [] (top ∷ []) name
+StopsWith library top NoMemory = Unit {0}
 
 -- the structure at the place is the first of its name, and has the mark
 pub record IsNext (library : List Structure) (marks : List Mark) (structure : ℕ) (mark : Mark) : Type 0 where

@@ -1,7 +1,7 @@
-ghost use Rattle.std.specs.Prelude.{◌≡◌, ◌≢◌, ◌*◌, ℤ, pos, ◌≤ℤ◌, None, [], ◌∷◌, unsigned_abs, length, take, All, Contains, IfOk};
+//! How many rectangles and labels structures give, before anything is placed.
+ghost use Rattle.std.specs.Prelude.{◌≡◌, ◌≢◌, ◌*◌, None, [], ◌∷◌, unsigned_abs, length, take, All, Contains, IfOk};
 ghost use Rattle.gds_flat.specs.Reach.{target as target_of};
 ghost use Rattle.gds_flat.specs.Elements.{Fine, IsWhole};
-ghost use Rattle.gds_flat.specs.Placing.{end_of};
 ghost use Rattle.gds_flat.specs.Walking.{names_at};
 ghost use Rattle.gds_flat.specs.Depths.{IsTree, PlaceOnly};
 ghost use Rattle.gds_flat.specs.Refused.{elements_along};
@@ -9,11 +9,12 @@ ghost use Rattle.gds_flat.specs.Drawn.{IsDrawable, AreDrawable, HasCount, AreCou
 ghost use Rattle.gds_flat.specs.Counting.{AreFirstCounts, HasCountOf, HasOwnCount, HasCountOn, IsPlacedTimes};
 
 use crate::depths::rank_before;
+use crate::ends::taken_end;
 use crate::masks::mask_of;
 use crate::names::Names;
 use crate::orders::target;
 use crate::walk::Walk;
-use gds_slabs::{PathEnd, path_count, slab_count};
+use gds_slabs::{path_count, slab_count};
 use gds_stream::Element;
 use rt_base::{OutOfMemory, Text};
 use rt_tech::Tech;
@@ -147,21 +148,10 @@ fn count_on(alloc: Global, element: &Element) -> Result<u64, OutOfMemory>
             points,
             ..
         } => {
-            let end = end_of_type(pathtype);
+            let end = taken_end(pathtype);
             Ok(path_count(points.as_slice(), end))
         }
         Element::Label { .. } => Ok(1),
         _ => Ok(0),
-    }
-}
-
-// How a path of the type ends.
-pub(crate) fn end_of_type(pathtype: &i16) -> PathEnd
-    ensures { result ≡ end_of pathtype.now }
-{
-    if *pathtype == 0 {
-        PathEnd::Flush
-    } else {
-        PathEnd::Square
     }
 }

@@ -1,3 +1,4 @@
+//! How deep structures are placed in one another.
 ghost use Rattle.std.specs.Prelude.{◌≡◌, ◌<◌, ◌≤◌, [], ◌∷◌, None, Some, length, take, Contains, IfOk, MatchOption};
 ghost use Rattle.gds_flat.specs.Reach.{place_named};
 ghost use Rattle.gds_flat.specs.Walking.{names_at, AreMarked};

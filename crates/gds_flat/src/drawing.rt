@@ -1,35 +1,17 @@
-ghost use Rattle.std.specs.Prelude.{◌≡◌, ◌<◌, [], length, replicate, All, IfOk, IfErr, OnOk, MatchBool, MatchOption};
+//! The layout that items draw, and the first item that lies too far out.
+ghost use Rattle.std.specs.Prelude.{◌≡◌, ◌<◌, [], length, replicate, All, IfOk, MatchBool, MatchOption};
 ghost use Rattle.gds_flat.specs.Items.{DrawingIsNear, DrawingIsFar, IsNear, FirstFar, marks_of};
 ghost use Rattle.gds_flat.specs.Drawn.{drawing_of, pieces_in};
-ghost use Rattle.gds_flat.specs.Drawings.{AreOnMasks, Draws, DrawingRefused};
+ghost use Rattle.gds_flat.specs.Drawings.{AreOnMasks, Draws};
 
-use crate::error::FlatError;
 use crate::item::{Drawn, Item};
-use crate::words::copied;
+use crate::limits::FARTHEST;
 use rt_base::{List, OutOfMemory, Rect};
 use rt_layout::{Label, Layout};
-use rt_tech::Tech;
 use std::alloc::Global;
 
-// How far from an axis a coordinate may lie.
-const FARTHEST: u64 = 1_000_000_000;
-
-// The layout that the items draw on the masks of the table. The first item that lies too far out refuses it.
-pub(crate) fn layout_of(alloc: Global, items: &[Item], tech: &Tech) -> Result<Layout, FlatError>
-    requires { All (λ i. i.mask < length tech.now.masks) items.now }
-    ensures near { OnOk result (All (λ p. DrawingIsNear p.drawing) (pieces_in items.now)) }
-    ensures draws { IfOk result (Draws (pieces_in items.now) (length tech.now.masks)) }
-    ensures err { IfErr result (DrawingRefused (pieces_in items.now)) }
-{
-    if let Some(offset) = first_far(items) {
-        return Err(FlatError::CoordinateRange { offset });
-    }
-    let layout = drawn(alloc, items, tech.masks.as_slice().len())?;
-    Ok(layout)
-}
-
 // The offset of the first item that lies too far out.
-fn first_far(items: &[Item]) -> Option<u64>
+pub(crate) fn first_far(items: &[Item]) -> Option<u64>
     ensures { MatchOption result (All (λ p. DrawingIsNear p.drawing) (pieces_in items.now)) (FirstFar (pieces_in items.now)) }
 {
     for item in items {
@@ -76,7 +58,7 @@ fn number_is_near(number: &i64) -> bool
 }
 
 // The layout that the items draw on so many masks.
-fn drawn(alloc: Global, items: &[Item], count: usize) -> Result<Layout, OutOfMemory>
+pub(crate) fn drawn(alloc: Global, items: &[Item], count: usize) -> Result<Layout, OutOfMemory>
     requires { All (λ i. i.mask < count) items.now }
     ensures { IfOk result (Draws (pieces_in items.now) count) }
 {
@@ -120,7 +102,7 @@ fn labels(alloc: Global, items: &[Item]) -> Result<List<Label>, OutOfMemory>
             labels.push(Label {
                 mask: item.mask,
                 at: *at,
-                text: copied(alloc, text)?,
+                text: text.copy(alloc)?,
             })?;
         }
     }

@@ -1,10 +1,11 @@
+//! The tests of elements, in the order in which structures were reached and their elements stand.
 ghost use Rattle.std.specs.Prelude.{All, OnOk, IfErr};
-ghost use Rattle.gds_flat.specs.Elements.{IsTested, IsWhole, Fine, FormFault, FaultOf, FirstFault};
+ghost use Rattle.gds_flat.specs.Elements.{IsTested, Fine, FaultOf, FirstFault};
 ghost use Rattle.gds_flat.specs.Refused.{elements_along};
 ghost use Rattle.gds_flat.specs.Walking.{names_at};
 ghost use Rattle.gds_flat.specs.Depths.{IsTree};
 
-use crate::error::FlatError;
+use crate::error::ElementFault;
 use crate::masks::{is_passed_over, mask_of, pair_of};
 use crate::names::Names;
 use crate::odds::odd_of;
@@ -14,7 +15,7 @@ use gds_stream::Element;
 use rt_tech::Tech;
 
 // Tests the elements of the structures in the order in which they were reached.
-pub(crate) fn test_all(names: &Names, walk: &Walk, tech: &Tech) -> Result<(), FlatError>
+pub(crate) fn test_all(names: &Names, walk: &Walk, tech: &Tech) -> Result<(), ElementFault>
     requires { IsTree names.now.structures.now names.now.top.now walk.now }
     ensures ok { OnOk result (All (Fine tech.now) (elements_along names.now.structures.now (names_at names.now.structures.now walk.now.order.items))) }
     ensures err { IfErr result (FirstFault tech.now (elements_along names.now.structures.now (names_at names.now.structures.now walk.now.order.items))) }
@@ -26,7 +27,7 @@ pub(crate) fn test_all(names: &Names, walk: &Walk, tech: &Tech) -> Result<(), Fl
 }
 
 // Tests elements in their order.
-fn test_elements(tech: &Tech, elements: &[Element]) -> Result<(), FlatError>
+fn test_elements(tech: &Tech, elements: &[Element]) -> Result<(), ElementFault>
     ensures ok { OnOk result (All (Fine tech.now) elements.now) }
     ensures err { IfErr result (FirstFault tech.now elements.now) }
 {
@@ -37,7 +38,7 @@ fn test_elements(tech: &Tech, elements: &[Element]) -> Result<(), FlatError>
 }
 
 // Tests an element: its layer, then what is odd in it, then its steps. What the table passes over isn't tested.
-fn test(tech: &Tech, element: &Element) -> Result<(), FlatError>
+fn test(tech: &Tech, element: &Element) -> Result<(), ElementFault>
     ensures ok { OnOk result (Fine tech.now element.now) }
     ensures err { IfErr result (FaultOf tech.now element.now) }
 {
@@ -50,34 +51,26 @@ fn test(tech: &Tech, element: &Element) -> Result<(), FlatError>
     if is_passed_over(tech, &pair) {
         return Ok(());
     }
-    Err(FlatError::UnmappedLayer {
+    Err(ElementFault::Unmapped {
         layer: pair.0,
         number: pair.1,
     })
 }
 
-// Tests an element that isn't passed over.
-fn test_tested(tech: &Tech, element: &Element) -> Result<(), FlatError>
+// Tests an element that isn't passed over: what is odd in it, and its steps.
+fn test_tested(tech: &Tech, element: &Element) -> Result<(), ElementFault>
     requires { IsTested tech.now element.now }
     ensures ok { OnOk result (Fine tech.now element.now) }
     ensures err { IfErr result (FaultOf tech.now element.now) }
 {
-    test_form(element)
-}
-
-// Tests what is odd in an element, and its steps.
-fn test_form(element: &Element) -> Result<(), FlatError>
-    ensures ok { OnOk result (IsWhole element.now) }
-    ensures err { IfErr result (FormFault element.now) }
-{
     if let Some(odd) = odd_of(element) {
-        return Err(FlatError::Unsupported {
+        return Err(ElementFault::Oddity {
             offset: offset_of(element),
             odd,
         });
     }
     if step_fails(element) {
-        return Err(FlatError::ArrayStep {
+        return Err(ElementFault::Steps {
             offset: offset_of(element),
         });
     }

@@ -1,8 +1,11 @@
+//! Why a structure isn't flattened.
 ghost use Rattle.std.specs.Prelude.{◌≡◌};
 ghost use Rattle.gds_flat.specs.declared.error.FlatError.TheVariants.{OutOfMemory as Nothing};
+ghost use Rattle.gds_flat.specs.declared.error.Stop.TheVariants.{NoMemory as Ended};
+ghost use Rattle.gds_flat.specs.Refused.{refusal_of, refusal_to};
 
 use rt_base::{List, OutOfMemory, Text};
-use std::alloc::{AllocError, AllocFailed};
+use std::alloc::AllocFailed;
 use thiserror::Error;
 
 /// What this project doesn't take in an element, in the order in which an element is tested. (This project's own.)
@@ -90,18 +93,74 @@ impl From<OutOfMemory> for FlatError {
     }
 }
 
-impl From<AllocError> for FlatError {
-    ghost from_gives = { λ _ e. e ≡ Nothing };
+/// What is wrong with an element that is reached and isn't passed over. (This project's own.)
+#[derive(Clone, Copy, Drop)]
+pub enum ElementFault {
+    /// The table neither maps its pair nor passes over it.
+    Unmapped {
+        /// The layer.
+        layer: i16,
+        /// The data type, the text type or the box type.
+        number: i16,
+    },
+    /// It is something that isn't taken.
+    Oddity {
+        /// The place of its first byte.
+        offset: u64,
+        /// What it is.
+        odd: Odd,
+    },
+    /// It is an array of less than one column or row, or a step of it isn't whole.
+    Steps {
+        /// The place of its first byte.
+        offset: u64,
+    },
+}
 
-    fn from(_error: AllocError) -> FlatError {
-        FlatError::OutOfMemory
+impl From<ElementFault> for FlatError {
+    ghost from_gives = { λ fault error. error ≡ refusal_of fault };
+
+    fn from(fault: ElementFault) -> FlatError {
+        match fault {
+            ElementFault::Unmapped { layer, number } => FlatError::UnmappedLayer { layer, number },
+            ElementFault::Oddity { offset, odd } => FlatError::Unsupported { offset, odd },
+            ElementFault::Steps { offset } => FlatError::ArrayStep { offset },
+        }
     }
 }
 
-impl<T: Drop> From<AllocFailed<T>> for FlatError {
-    ghost from_gives = { λ _ e. e ≡ Nothing };
+// Why a walk stops.
+#[derive(Drop)]
+pub(crate) enum Stop {
+    // No structure has the name.
+    Unnamed(Text),
+    // There was no memory.
+    NoMemory,
+}
 
-    fn from(_error: AllocFailed<T>) -> FlatError {
-        FlatError::OutOfMemory
+impl From<OutOfMemory> for Stop {
+    ghost from_gives = { λ _ stop. stop ≡ Ended };
+
+    fn from(_error: OutOfMemory) -> Stop {
+        Stop::NoMemory
+    }
+}
+
+impl<T: Drop> From<AllocFailed<T>> for Stop {
+    ghost from_gives = { λ _ stop. stop ≡ Ended };
+
+    fn from(_error: AllocFailed<T>) -> Stop {
+        Stop::NoMemory
+    }
+}
+
+impl From<Stop> for FlatError {
+    ghost from_gives = { λ stop error. error ≡ refusal_to stop };
+
+    fn from(stop: Stop) -> FlatError {
+        match stop {
+            Stop::Unnamed(name) => FlatError::NoSuchStructure { name },
+            Stop::NoMemory => FlatError::OutOfMemory,
+        }
     }
 }

@@ -1,14 +1,17 @@
-ghost use Rattle.std.specs.Prelude.{◌^◌, ◌<◌, length, IfErr, IfOk};
-ghost use Rattle.gds_flat.specs.Drawn.{AreDrawable};
+//! Flattening: a structure as a flat layout, or why it isn't one.
+ghost use Rattle.std.specs.Prelude.{◌^◌, ◌<◌, length, All, IfErr, IfOk};
+ghost use Rattle.gds_flat.specs.Drawn.{pieces_in, AreDrawable};
 ghost use Rattle.gds_flat.specs.Refused.{IsFlattened, FlatRefused};
-ghost use Rattle.gds_flat.specs.Drawings.{IsAcceptedWalk};
+ghost use Rattle.gds_flat.specs.Drawings.{AreFewPieces, IsAcceptedWalk};
 
 use crate::acceptance::accepted;
 use crate::counts::counts;
 use crate::depths::rank_before;
-use crate::drawing::layout_of;
+use crate::drawing::{drawn, first_far};
 use crate::error::FlatError;
+use crate::item::Item;
 use crate::items::items;
+use crate::limits::MOST_ITEMS;
 use crate::names::Names;
 use crate::orders::names;
 use crate::walk::Walk;
@@ -18,19 +21,24 @@ use rt_layout::Layout;
 use rt_tech::Tech;
 use std::alloc::Global;
 
-// The most rectangles and labels that are drawn.
-const MOST_ITEMS: u64 = 50_000;
-
 /// The structure by the name as a flat layout in source database units: each mask of the table covers the cells that the
 /// structure and all that it places cover there, and the labels come in the stream's order, with what a reference places at
 /// its place. Elements that the table passes over give nothing. A polygon becomes rectangles between adjacent heights of its
 /// points, and a path the rectangles of its segments and the squares at its points. (GDSII Release 6 for what elements and
 /// references mean.)
 ///
-/// The refusals come in this order: `NoSuchStructure`, `Cyclic`, `TooDeep`, `UnmappedLayer`, `Unsupported` and `ArrayStep`, as
-/// `accept` gives them; `TooMany`, for more than 50,000 rectangles and labels; `CoordinateRange`, for the first of them, in the
-/// stream's order, that comes to a coordinate beyond 1,000,000,000 database units either way. `OutOfMemory` may come at any
-/// time. (The order and the limits are this project's own.)
+/// The refusals come in this order, whatever else is at fault:
+/// - `NoSuchStructure`, for the top's name first and then by a walk that takes what a structure places in the stream's order and
+///   walks each structure as it is reached;
+/// - `Cyclic`;
+/// - `TooDeep`, for a chain of more than 64 structures;
+/// - `UnmappedLayer`, `Unsupported` and `ArrayStep`, for the elements in the stream's order over the structures as they were
+///   reached. An element that the table passes over isn't tested, nor is a structure that isn't reached;
+/// - `TooMany`, for more than 50,000 rectangles and labels;
+/// - `CoordinateRange`, for the first of them, in the stream's order, that comes to a coordinate beyond 1,000,000,000 database
+///   units either way.
+///
+/// `OutOfMemory` may come at any time. (The order and the limits are this project's own.)
 pub fn flatten(
     alloc: Global,
     library: &Library,
@@ -72,5 +80,25 @@ fn flatten_walk(alloc: Global, names: &Names, walk: &Walk, tech: &Tech) -> Resul
         return Err(FlatError::TooMany { count });
     }
     let items = items(alloc, names, walk, tech, &counts)?;
-    layout_of(alloc, items.as_slice(), tech)
+    flatten_items(alloc, names, tech, items.as_slice())
+}
+
+// The top as a flat layout, by its items.
+fn flatten_items(
+    alloc: Global,
+    names: &Names,
+    tech: &Tech,
+    items: &[Item],
+) -> Result<Layout, FlatError>
+    requires few { AreFewPieces names.now.structures.now names.now.top.now tech.now (pieces_in items.now) }
+    requires drawable { AreDrawable names.now.structures.now }
+    requires masks { All (λ i. i.mask < length tech.now.masks) items.now }
+    ensures ok { IfOk result (IsFlattened names.now.structures.now names.now.top.now tech.now) }
+    ensures err { IfErr result (FlatRefused names.now.structures.now names.now.top.now tech.now) }
+{
+    if let Some(offset) = first_far(items) {
+        return Err(FlatError::CoordinateRange { offset });
+    }
+    let layout = drawn(alloc, items, tech.masks.as_slice().len())?;
+    Ok(layout)
 }

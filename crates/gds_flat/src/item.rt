@@ -1,3 +1,4 @@
+//! What an item is: a rectangle or a label on a mask.
 use rt_base::{Rect, Text};
 
 // What an item draws, in source database units.

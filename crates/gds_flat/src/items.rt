@@ -1,3 +1,4 @@
+//! The items of structures, in the order of the finish of a walk.
 ghost use Rattle.std.specs.Prelude.{◌≡◌, [], ◌∷◌, ◌<◌, ◌^◌, Some, None, length, All, take, Contains, IfOk, OnOk};
 ghost use Rattle.gds_flat.specs.Reach.{target as target_of, Shallow};
 ghost use Rattle.gds_flat.specs.Elements.{Fine};

@@ -1,3 +1,4 @@
+//! Laws of flat layouts.
 ghost use Rattle.std.specs.Prelude.{◌≡◌, List, Contains};
 ghost use Rattle.gds_stream.specs.declared.library.Structure.{Structure as Part};
 ghost use Rattle.gds_flat.specs.Laws.{OneFlat};

@@ -6,11 +6,13 @@ mod counts;
 mod depths;
 mod drawing;
 mod elements;
+mod ends;
 mod error;
 mod flat;
 mod item;
 mod items;
 mod laws;
+pub mod limits;
 mod masks;
 mod names;
 mod odds;
@@ -19,14 +21,7 @@ mod own;
 mod placing;
 mod steps;
 mod walk;
-mod words;
 
-pub use acceptance::accept;
-pub use error::{FlatError, Odd};
+pub use error::{ElementFault, FlatError, Odd};
 pub use flat::flatten;
 pub use laws::{no_circle, no_order_and_missing, one_flat, one_missing, one_order};
-
-#[cfg(test)]
-mod counts_tests;
-#[cfg(test)]
-mod tests;

@@ -1,8 +1,9 @@
+//! Elements on the masks of a table.
 ghost use Rattle.std.specs.Prelude.{◌≡◌};
-ghost use Rattle.gds_flat.specs.Elements.{pair_of as pair_in, mask_of as mask_in, mask_of_shapes as shapes_in, mask_of_notes as notes_in, is_passed_over as passes, is_ignored as ignores};
+ghost use Rattle.gds_flat.specs.Elements.{pair_of as pair_in, mask_of as mask_in, mask_of_shapes as shapes_in, mask_of_notes as notes_in, is_passed_over as passes};
 
 use gds_stream::Element;
-use rt_tech::Tech;
+use rt_tech::{Tech, is_ignored, same_pair};
 
 // The layer and the number of an element, if it has them.
 pub(crate) fn pair_of(element: &Element) -> Option<(i16, i16)>
@@ -58,10 +59,10 @@ pub(crate) fn mask_of(tech: &Tech, element: &Element) -> Option<usize>
 fn mask_of_shapes(tech: &Tech, layer: &i16, number: &i16) -> Option<usize>
     ensures { result ≡ shapes_in tech.now.masks (layer.now, number.now) }
 {
-    tech.masks
-        .as_slice()
-        .iter()
-        .position(|mask| mask.layer == *layer && mask.datatype == *number)
+    tech.masks.as_slice().iter().position(|mask| same_pair(
+        (mask.layer, mask.datatype),
+        (*layer, *number),
+    ))
 }
 
 // The first mask whose labels have the pair.
@@ -72,7 +73,7 @@ fn mask_of_notes(tech: &Tech, layer: &i16, number: &i16) -> Option<usize>
         .as_slice()
         .iter()
         .position(|mask| match mask.note {
-            Some(note) => note.0 == *layer && note.1 == *number,
+            Some(note) => same_pair(note, (*layer, *number)),
             None => false,
         })
 }
@@ -81,14 +82,5 @@ fn mask_of_notes(tech: &Tech, layer: &i16, number: &i16) -> Option<usize>
 pub(crate) fn is_passed_over(tech: &Tech, pair: &(i16, i16)) -> bool
     ensures { result ≡ passes tech.now pair.now }
 {
-    tech.drop_unlisted || is_ignored(tech.ignored.as_slice(), pair)
-}
-
-// Whether one of the pairs is the pair, or its layer with every number.
-fn is_ignored(ignored: &[(i16, i16)], pair: &(i16, i16)) -> bool
-    ensures { result ≡ ignores ignored.now pair.now }
-{
-    ignored
-        .iter()
-        .any(|p| p.0 == pair.0 && (p.1 == pair.1 || p.1 == -1))
+    tech.drop_unlisted || is_ignored(tech.ignored.as_slice(), *pair)
 }

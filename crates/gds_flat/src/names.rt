@@ -1,3 +1,4 @@
+//! The structures of a library by their names.
 ghost use Rattle.std.specs.Prelude.{◌≡◌, ℕ, List as ListValue, bytes_eq};
 ghost use Rattle.indexmap.specs.IndexMap.{get_by};
 ghost use Rattle.gds_flat.specs.Reach.{place_named};

@@ -1,10 +1,10 @@
-ghost use Rattle.std.specs.Prelude.{◌≡◌, ◌≢◌, ◌⊎◌, pos, MatchBool};
-ghost use Rattle.gds_slabs.specs.Path.{IsPathWidth};
+//! What is odd in an element, in the order of the tests.
 ghost use Rattle.gds_flat.specs.Elements.{IsFirstFor, PointsHave, PointsLack, PathHas, PathLacks, PlaceHas, PlaceLacks, HasOdd, LacksOdd};
 
+use crate::ends::end_of;
 use crate::error::Odd;
 use gds_records::{is_real_one, quarter_turns};
-use gds_slabs::is_slanted;
+use gds_slabs::{is_path_width, is_slanted};
 use gds_stream::{Element, Place};
 use rt_base::Point;
 
@@ -39,28 +39,13 @@ fn odd_of_points(points: &[Point]) -> Option<Odd>
 fn odd_of_path(pathtype: &i16, width: &i32, points: &[Point]) -> Option<Odd>
     ensures { IsFirstFor (PathHas pathtype.now width.now points.now) (PathLacks pathtype.now width.now points.now) result }
 {
-    if !is_type(pathtype) {
+    let Some(_end) = end_of(pathtype) else {
         return Some(Odd::PathType);
-    }
-    if !is_width(width) {
+    };
+    if !is_path_width(*width) {
         return Some(Odd::PathWidth);
     }
     odd_of_points(points)
-}
-
-// Whether the type is 0 or 2.
-fn is_type(pathtype: &i16) -> bool
-    ensures { MatchBool result ((pathtype.now ≡ pos 0) ⊎ (pathtype.now ≡ pos 2)) ((pathtype.now ≢ pos 0) × (pathtype.now ≢ pos 2)) }
-{
-    *pathtype == 0 || *pathtype == 2
-}
-
-// Whether the width is even and isn't 0.
-fn is_width(width: &i32) -> bool
-    ensures { MatchBool result (IsPathWidth width.now) (¬ IsPathWidth width.now) }
-{
-    let magnitude = width.unsigned_abs();
-    magnitude > 0 && magnitude % 2 == 0
 }
 
 fn odd_of_place(place: &Place) -> Option<Odd>

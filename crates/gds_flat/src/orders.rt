@@ -1,3 +1,4 @@
+//! Look-ups by name, and what an element places.
 ghost use Rattle.std.specs.Prelude.{◌≡◌, None, Some, IfOk, MatchOption};
 ghost use Rattle.gds_flat.specs.Reach.{place_named, target as target_of};
 

@@ -1,15 +1,16 @@
-ghost use Rattle.std.specs.Prelude.{◌≡◌, ◌++◌, ◌<◌, ◌≤◌, ◌^◌, length, map, All, OnOk};
+//! What an element gives by itself.
+ghost use Rattle.std.specs.Prelude.{◌≡◌, ◌++◌, ◌<◌, ◌≤◌, ◌^◌, length, map, Some, All, OnOk};
 ghost use Rattle.gds_slabs.specs.Polygon.{IsClosed, IsSlanted};
 ghost use Rattle.gds_slabs.specs.Path.{IsPathWidth};
-ghost use Rattle.gds_flat.specs.Elements.{Plain};
-ghost use Rattle.gds_flat.specs.Items.{AreSlabPieces, GivesOn, Own};
+ghost use Rattle.gds_slabs.specs.declared.path.PathEnd.{PathEnd as End};
+ghost use Rattle.gds_flat.specs.Elements.{Plain, end_of};
+ghost use Rattle.gds_flat.specs.Items.{AreSlabPieces, ArePathPieces, GivesOn, Own};
 ghost use Rattle.gds_flat.specs.Drawn.{IsDrawable};
-ghost use Rattle.gds_flat.specs.Building.{CanBeDrawn, Appends, AreNearAnd, ArePathPieces, IsNotePiece, IsNearPoint, area_item};
+ghost use Rattle.gds_flat.specs.Building.{CanBeDrawn, Appends, AreNearAnd, IsNotePiece, area_item};
 
-use crate::counts::end_of_type;
+use crate::ends::taken_end;
 use crate::item::{Drawn, Item};
 use crate::masks::mask_of;
-use crate::words::copied;
 use gds_slabs::{path_rects, slabs};
 use gds_stream::Element;
 use rt_base::{List, OutOfMemory, Point, Rect, Text};
@@ -85,7 +86,6 @@ fn push_polygon(
     requires straight { ¬ IsSlanted points.now }
     ensures { OnOk result (Appends (AreNearAnd (AreSlabPieces offset mask points.now)) items.old items.new) }
 {
-    read_points(points);
     let rects = slabs(alloc, points)?;
     push_areas(items, offset, mask, rects.as_slice())
 }
@@ -100,29 +100,13 @@ fn push_path(
     width: &i32,
     points: &[Point],
 ) -> Result<(), OutOfMemory>
+    requires pathtype { (end : End) × (end_of pathtype.now ≡ Some end) }
     requires width { IsPathWidth width.now }
     requires points { 2 ≤ length points.now }
     ensures { OnOk result (Appends (AreNearAnd (ArePathPieces offset mask pathtype.now width.now points.now)) items.old items.new) }
 {
-    read_points(points);
-    let rects = path_rects(alloc, points, *width, end_of_type(pathtype))?;
+    let rects = path_rects(alloc, points, *width, taken_end(pathtype))?;
     push_areas(items, offset, mask, rects.as_slice())
-}
-
-// Reads the points, by which it is known that each is near the axes: a slice of points doesn't tell it by itself.
-fn read_points(points: &[Point])
-    ensures { All IsNearPoint points.now }
-{
-    for point in points {
-        read_point(point);
-    }
-}
-
-fn read_point(point: &Point)
-    ensures { IsNearPoint point.now }
-{
-    let _across = i64::from(point.x);
-    let _upwards = i64::from(point.y);
 }
 
 // Appends rectangles.
@@ -160,7 +144,7 @@ fn push_note(
         mask,
         drawn: Drawn::Note {
             at: (i64::from(at.x), i64::from(at.y)),
-            text: copied(alloc, text)?,
+            text: text.copy(alloc)?,
         },
     })
 }

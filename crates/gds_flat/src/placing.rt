@@ -1,3 +1,4 @@
+//! What references place: items moved by each of their steps.
 ghost use Rattle.std.specs.Prelude.{◌≡◌, ◌≢◌, ◌++◌, [], ◌∷◌, ◌<◌, ◌^◌, ℤ, pos, neg_ℤ, ◌+ℤ◌, ◌-ℤ◌, ◌*ℤ◌, ◌≤ℤ◌, None, map, All, IfOk, OnOk};
 ghost use Rattle.gds_records.specs.Reals.{IsQuarterTurns};
 ghost use Rattle.gds_slabs.specs.Steps.{ShiftsWithin};
@@ -10,7 +11,6 @@ ghost use Rattle.gds_flat.specs.Building.{SpotWithin, PieceWithin, DrawingWithin
 
 use crate::error::Odd;
 use crate::item::{Drawn, Item};
-use crate::words::copied;
 use gds_records::quarter_turns;
 use gds_slabs::{Step, moved_point, moved_rect};
 use gds_stream::{Element, Place};
@@ -300,7 +300,7 @@ fn moved_drawn(alloc: Global, step: &Step, drawn: &Drawn) -> Result<Drawn, OutOf
         Drawn::Area(rect) => Ok(Drawn::Area(moved_rect(step, rect))),
         Drawn::Note { at, text } => Ok(Drawn::Note {
             at: moved_point(step, *at),
-            text: copied(alloc, text)?,
+            text: text.copy(alloc)?,
         }),
     }
 }

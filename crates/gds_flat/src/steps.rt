@@ -1,3 +1,4 @@
+//! The offset of an element, and the steps of an array.
 ghost use Rattle.std.specs.Prelude.{◌≡◌, ◌≢◌, ◌⊎◌, ℤ, pos, ◌-ℤ◌, ◌*ℤ◌, ◌≤ℤ◌, MatchBool};
 ghost use Rattle.gds_flat.specs.Elements.{offset_of as offset_in, point_at, LeadTo, NoneLeads, AreSteps, HasSteps, StepFails};
 

@@ -1,10 +1,10 @@
+//! The walk over what structures place.
 ghost use Rattle.std.specs.Prelude.{◌≡◌, ◌+◌, ◌^◌, ◌<◌, ◌≤◌, [], ◌∷◌, ◌++◌, None, Some, length, drop, slice_get, All, IfOk, IfErr, OnOk};
 ghost use Rattle.gds_flat.specs.Walking.{IsFirst, name_at, names_at, elements_at, opens, IsWalk, HasWalked, work_left, StopsWith, IsNext};
 
-use crate::error::FlatError;
+use crate::error::Stop;
 use crate::names::Names;
 use crate::orders::{find, target};
-use crate::words::copied;
 use gds_stream::{Element, Structure};
 use rt_base::{List, OutOfMemory, Text};
 use std::alloc::Global;
@@ -43,7 +43,7 @@ pub(crate) struct Walk {
 }
 
 // Walks from the top.
-pub(crate) fn walked(alloc: Global, names: &Names) -> Result<Walk, FlatError>
+pub(crate) fn walked(alloc: Global, names: &Names) -> Result<Walk, Stop>
     ensures ok { IfOk result (HasWalked names.now.structures.now names.now.top.now) }
     ensures err { IfErr result (StopsWith names.now.structures.now names.now.top.now) }
 {
@@ -67,7 +67,7 @@ fn begun(alloc: Global, names: &Names) -> Result<Walk, OutOfMemory>
 }
 
 // Walks on to the end.
-fn run(alloc: Global, walk: &mut Walk, names: &Names) -> Result<(), FlatError>
+fn run(alloc: Global, walk: &mut Walk, names: &Names) -> Result<(), Stop>
     requires { IsWalk names.now.structures.now names.now.top.now [] walk.old.frames.items walk.old }
     ensures ok { OnOk result (IsWalk names.now.structures.now names.now.top.now [] [] walk.new) }
     ensures err { IfErr result (StopsWith names.now.structures.now names.now.top.now) }
@@ -79,7 +79,7 @@ fn run(alloc: Global, walk: &mut Walk, names: &Names) -> Result<(), FlatError>
 }
 
 // Takes the next element of the innermost frame, which was taken from the frames.
-fn advance(alloc: Global, walk: &mut Walk, names: &Names, frame: &Frame) -> Result<(), FlatError>
+fn advance(alloc: Global, walk: &mut Walk, names: &Names, frame: &Frame) -> Result<(), Stop>
     requires { IsWalk names.now.structures.now names.now.top.now [] (walk.old.frames.items ++ frame.now ∷ []) walk.old }
     ensures ok { OnOk result (IsWalk names.now.structures.now names.now.top.now [] walk.new.frames.items walk.new) }
     ensures less { OnOk result (work_left names.now.structures.now walk.new.frames.items walk.new.marks.items
@@ -89,7 +89,10 @@ fn advance(alloc: Global, walk: &mut Walk, names: &Names, frame: &Frame) -> Resu
     let elements = names.structures[frame.structure].elements.as_slice();
     match elements.get(frame.next) {
         Some(element) => go_on(alloc, walk, names, frame, element),
-        None => close(walk, names, frame),
+        None => {
+            close(walk, names, frame)?;
+            Ok(())
+        }
     }
 }
 
@@ -100,7 +103,7 @@ fn go_on(
     names: &Names,
     frame: &Frame,
     element: &Element,
-) -> Result<(), FlatError>
+) -> Result<(), Stop>
     requires walk { IsWalk names.now.structures.now names.now.top.now [] (walk.old.frames.items ++ frame.now ∷ []) walk.old }
     requires next { slice_get (elements_at names.now.structures.now frame.now.structure) frame.now.next ≡ Some element.now }
     requires fits { frame.now.next + 1 < 2 ^ 64 }
@@ -120,13 +123,12 @@ fn go_on(
 }
 
 // Ends the innermost frame, which was taken from the frames and has nothing left.
-fn close(walk: &mut Walk, names: &Names, frame: &Frame) -> Result<(), FlatError>
+fn close(walk: &mut Walk, names: &Names, frame: &Frame) -> Result<(), OutOfMemory>
     requires walk { IsWalk names.now.structures.now names.now.top.now [] (walk.old.frames.items ++ frame.now ∷ []) walk.old }
     requires over { length (elements_at names.now.structures.now frame.now.structure) ≤ frame.now.next }
     ensures ok { OnOk result (IsWalk names.now.structures.now names.now.top.now [] walk.new.frames.items walk.new) }
     ensures less { OnOk result (work_left names.now.structures.now walk.new.frames.items walk.new.marks.items
         < work_left names.now.structures.now (walk.old.frames.items ++ frame.now ∷ []) walk.old.marks.items) }
-    ensures err { IfErr result (StopsWith names.now.structures.now names.now.top.now) }
 {
     walk.marks[frame.structure] = Mark::Done(walk.finish.len());
     walk.finish.push(frame.structure)?;
@@ -134,7 +136,7 @@ fn close(walk: &mut Walk, names: &Names, frame: &Frame) -> Result<(), FlatError>
 }
 
 // Takes a name that the innermost frame places, or the top's.
-fn take(alloc: Global, walk: &mut Walk, names: &Names, name: &Text) -> Result<(), FlatError>
+fn take(alloc: Global, walk: &mut Walk, names: &Names, name: &Text) -> Result<(), Stop>
     requires { IsWalk names.now.structures.now names.now.top.now (name.now ∷ []) walk.old.frames.items walk.old }
     ensures ok { OnOk result (IsWalk names.now.structures.now names.now.top.now [] walk.new.frames.items walk.new) }
     ensures less { OnOk result (work_left names.now.structures.now walk.new.frames.items walk.new.marks.items
@@ -142,21 +144,21 @@ fn take(alloc: Global, walk: &mut Walk, names: &Names, name: &Text) -> Result<()
     ensures err { IfErr result (StopsWith names.now.structures.now names.now.top.now) }
 {
     match find(names, name) {
-        Some(structure) => visit(alloc, walk, names, structure),
-        None => Err(FlatError::NoSuchStructure {
-            name: copied(alloc, name)?,
-        }),
+        Some(structure) => {
+            visit(alloc, walk, names, structure)?;
+            Ok(())
+        }
+        None => Err(Stop::Unnamed(name.copy(alloc)?)),
     }
 }
 
 // Takes a structure that the innermost frame places, or the top.
-fn visit(alloc: Global, walk: &mut Walk, names: &Names, structure: usize) -> Result<(), FlatError>
+fn visit(alloc: Global, walk: &mut Walk, names: &Names, structure: usize) -> Result<(), OutOfMemory>
     requires walk { IsWalk names.now.structures.now names.now.top.now (name_at names.now.structures.now structure ∷ []) walk.old.frames.items walk.old }
     requires first { IsFirst names.now.structures.now structure }
     ensures ok { OnOk result (IsWalk names.now.structures.now names.now.top.now [] walk.new.frames.items walk.new) }
     ensures less { OnOk result (work_left names.now.structures.now walk.new.frames.items walk.new.marks.items
         ≤ work_left names.now.structures.now walk.old.frames.items walk.old.marks.items) }
-    ensures err { IfErr result (StopsWith names.now.structures.now names.now.top.now) }
 {
     match walk.marks[structure] {
         Mark::Unseen => open(walk, names, structure),
@@ -166,13 +168,12 @@ fn visit(alloc: Global, walk: &mut Walk, names: &Names, structure: usize) -> Res
 }
 
 // Begins a frame for a structure that wasn't reached before.
-fn open(walk: &mut Walk, names: &Names, structure: usize) -> Result<(), FlatError>
+fn open(walk: &mut Walk, names: &Names, structure: usize) -> Result<(), OutOfMemory>
     requires walk { IsWalk names.now.structures.now names.now.top.now (name_at names.now.structures.now structure ∷ []) walk.old.frames.items walk.old }
     requires unseen { IsNext names.now.structures.now walk.old.marks.items structure Mark.Unseen }
     ensures ok { OnOk result (IsWalk names.now.structures.now names.now.top.now [] walk.new.frames.items walk.new) }
     ensures less { OnOk result (work_left names.now.structures.now walk.new.frames.items walk.new.marks.items
         ≤ work_left names.now.structures.now walk.old.frames.items walk.old.marks.items) }
-    ensures err { IfErr result (StopsWith names.now.structures.now names.now.top.now) }
 {
     walk.marks[structure] = Mark::Open(walk.frames.len());
     walk.order.push(structure)?;
@@ -187,13 +188,12 @@ fn remember(
     names: &Names,
     place: usize,
     structure: usize,
-) -> Result<(), FlatError>
+) -> Result<(), OutOfMemory>
     requires walk { IsWalk names.now.structures.now names.now.top.now (name_at names.now.structures.now structure ∷ []) walk.old.frames.items walk.old }
     requires open { IsNext names.now.structures.now walk.old.marks.items structure (Mark.Open place) }
     ensures ok { OnOk result (IsWalk names.now.structures.now names.now.top.now [] walk.new.frames.items walk.new) }
     ensures less { OnOk result (work_left names.now.structures.now walk.new.frames.items walk.new.marks.items
         ≤ work_left names.now.structures.now walk.old.frames.items walk.old.marks.items) }
-    ensures err { IfErr result (StopsWith names.now.structures.now names.now.top.now) }
 {
     if walk.circle.is_some() {
         return Ok(());
@@ -232,7 +232,7 @@ pub(crate) fn names_of(
 {
     let mut names = List::new(alloc);
     for place in places {
-        names.push(copied(alloc, &structures[*place].name)?)?;
+        names.push(structures[*place].name.copy(alloc)?)?;
     }
     Ok(names)
 }

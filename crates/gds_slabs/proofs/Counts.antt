@@ -63,7 +63,7 @@ among_toggled x z columns h =
     cond_both (list_any (int_eq x) columns) (remove_key (int_eq x) columns) (insert_key int_cmp columns x) (λ v. Among v z → (x ≡ z) ⊎ Among columns z)
     (λ _ k. inr (among_removed x z columns k)) (λ _ k. among_inserted x z columns k) h
 
-toggled_small : (x : ℤ) (columns : List ℤ) → IsSmall x → ((c : ℤ) → Among columns c → IsSmall c) → (c : ℤ) → Among (toggled x columns) c → IsSmall c
+pub toggled_small : (x : ℤ) (columns : List ℤ) → IsSmall x → ((c : ℤ) → Among columns c → IsSmall c) → (c : ℤ) → Among (toggled x columns) c → IsSmall c
 toggled_small x columns s small c h = elim (among_toggled x c columns h) [ inl e ↦ subst IsSmall e s | inr k ↦ small c k ]
 
 -- 2^31 rectangles at most for each row that is left

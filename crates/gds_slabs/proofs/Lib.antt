@@ -12,3 +12,4 @@ pub mod Slants
 pub mod Placing
 pub mod PathAreas
 pub mod Counts
+pub mod Nearness

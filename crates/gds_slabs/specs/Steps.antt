@@ -1,7 +1,8 @@
 -- Placing by a step: a turn about the origin, then a shift. A cell goes where its unit square goes.
-use Rattle.std.specs.Prelude.{◌≡◌, ℕ, zero, suc, ℤ, pos, neg_ℤ, ◌+ℤ◌, ◌-ℤ◌, ◌≤ℤ◌, Bool, true, false}
+use Rattle.std.specs.Prelude.{◌≡◌, ℕ, zero, suc, ℤ, pos, ◌^◌, neg_ℤ, ◌+ℤ◌, ◌-ℤ◌, ◌≤ℤ◌, Bool, true, false, List, map, All}
 use Rattle.rt_cells.specs.Rectangles.{Rectangle, Holds}
-use Rattle.rt_base.specs.Plane.{turned}
+use Rattle.rt_base.specs.declared.plane.Rect.{Rect}
+use Rattle.rt_base.specs.Plane.{area, turned}
 use Rattle.gds_slabs.specs.declared.step.Step.{Step}
 
 -- a point shifted by a step's shift
@@ -63,6 +64,15 @@ pub record IsWithin (reach : ℤ) (r : Rectangle) : Type 0 where
   pub right : r.right ≤ℤ reach
   pub bottom : neg_ℤ reach ≤ℤ r.bottom
   pub top : r.top ≤ℤ reach
+
+-- the number is no farther from 0 than 2^32
+pub record IsInReach (z : ℤ) : Type 0 where
+  pub low : neg_ℤ (pos (2 ^ 32)) ≤ℤ z
+  pub high : z ≤ℤ pos (2 ^ 32)
+
+-- the rectangles lie no farther from the axes than 2^32
+pub record AreInReach (rects : List Rect) : Type 0 where
+  pub near : All (IsWithin (pos (2 ^ 32))) (map area rects)
 
 -- the step shifts by so much at most
 pub record ShiftsWithin (reach : ℤ) (step : Step) : Type 0 where

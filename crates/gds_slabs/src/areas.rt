@@ -1,8 +1,9 @@
-ghost use Rattle.std.specs.Prelude.{◌≡◌, ◌≢◌, ◌↔◌, IsTrue, ◌≤◌, ℤ, ◌++◌, [], ◌∷◌, true, length, map, IfOk, OnOk};
+ghost use Rattle.std.specs.Prelude.{◌≡◌, ◌≢◌, ◌↔◌, IsTrue, ◌^◌, ◌≤◌, ℤ, pos, ◌++◌, [], ◌∷◌, true, length, map, IfOk, OnOk};
 ghost use Rattle.std.specs.List.{filter};
 ghost use Rattle.std.specs.Int.{int_min, int_max};
 ghost use Rattle.rt_base.specs.Plane.{area, IsCoordinate};
 ghost use Rattle.gds_slabs.specs.Polygon.{sides_from, sides};
+ghost use Rattle.gds_slabs.specs.Steps.{IsInReach, IsWithin, AreInReach};
 ghost use Rattle.gds_slabs.specs.Path.{IsPathWidth, half_of, square, row_segment, column_segment, segment, has_length, inner, squared_ends, path_areas};
 
 use crate::path::PathEnd;
@@ -20,8 +21,9 @@ pub fn is_path_width(width: i32) -> bool
 
 /// The rectangles of a path: for each segment in order whose ends differ that of its length and the path's width, then the
 /// square of the width at each inner point, then, for square ends, at the first and the last point. Segments are along rows or
-/// columns; the width is taken by its magnitude. Lengths are in database units. OutOfMemory where there is no memory for the
-/// rectangles. (This project's own, after GDSII Release 6's PATH.)
+/// columns; the width is taken by its magnitude. Lengths are in database units, and no rectangle lies farther from the axes
+/// than 2^32. OutOfMemory where there is no memory for the rectangles. (This project's own, after GDSII Release 6's PATH.)
+#[tactic(auto, using(crate::proofs::Nearness::near_none))]
 pub fn path_rects(
     alloc: Global,
     points: &[Point],
@@ -30,7 +32,8 @@ pub fn path_rects(
 ) -> Result<List<Rect>, OutOfMemory>
     requires points { 2 ≤ length points.now }
     requires width { IsPathWidth width }
-    ensures { IfOk result (λ list. map area list ≡ path_areas (half_of width) end points.now) }
+    ensures areas { IfOk result (λ list. map area list ≡ path_areas (half_of width) end points.now) }
+    ensures near { IfOk result AreInReach }
 {
     let pen = Pen::new(width);
     let mut rects = List::new(alloc);
@@ -47,7 +50,8 @@ fn push_segments(
     first: &Point,
     rest: &[Point],
 ) -> Result<(), OutOfMemory>
-    ensures { OnOk result (map area rects.new ≡ map area rects.old ++ map (segment pen.now.half) (filter has_length (sides_from first.now rest.now))) }
+    ensures areas { OnOk result (map area rects.new ≡ map area rects.old ++ map (segment pen.now.half) (filter has_length (sides_from first.now rest.now))) }
+    ensures near { OnOk result (AreInReach rects.old → AreInReach rects.new) }
 {
     let mut last = *first;
     for point in rest {
@@ -58,9 +62,10 @@ fn push_segments(
 }
 
 // Appends the rectangle of the segment, if it has a length.
-#[tactic(auto, using(crate::proofs::Paths::row_pushed, crate::proofs::Paths::column_pushed))]
+#[tactic(auto, using(crate::proofs::Paths::row_pushed, crate::proofs::Paths::column_pushed, crate::proofs::Nearness::near_pushed))]
 fn push_segment(rects: &mut List<Rect>, pen: &Pen, p: &Point, q: &Point) -> Result<(), OutOfMemory>
-    ensures { OnOk result (map area rects.new ≡ map area rects.old ++ map (segment pen.now.half) (filter has_length ((p.now, q.now) ∷ []))) }
+    ensures areas { OnOk result (map area rects.new ≡ map area rects.old ++ map (segment pen.now.half) (filter has_length ((p.now, q.now) ∷ []))) }
+    ensures near { OnOk result (AreInReach rects.old → AreInReach rects.new) }
 {
     if p.y != q.y {
         rects.push(along_column(pen, p, q))
@@ -74,7 +79,8 @@ fn push_segment(rects: &mut List<Rect>, pen: &Pen, p: &Point, q: &Point) -> Resu
 #[tactic(auto, using(crate::proofs::Paths::min_below_max))]
 fn along_row(pen: &Pen, p: &Point, q: &Point) -> Rect
     requires { p.now.x ≢ q.now.x }
-    ensures { area result ≡ row_segment pen.now.half (p.now, q.now) }
+    ensures area { area result ≡ row_segment pen.now.half (p.now, q.now) }
+    ensures near { IsWithin (pos (2 ^ 32)) (area result) }
 {
     Rect {
         x1: lesser(&p.x, &q.x),
@@ -87,7 +93,8 @@ fn along_row(pen: &Pen, p: &Point, q: &Point) -> Rect
 #[tactic(auto, using(crate::proofs::Paths::min_below_max))]
 fn along_column(pen: &Pen, p: &Point, q: &Point) -> Rect
     requires { p.now.y ≢ q.now.y }
-    ensures { area result ≡ column_segment pen.now.half (p.now, q.now) }
+    ensures area { area result ≡ column_segment pen.now.half (p.now, q.now) }
+    ensures near { IsWithin (pos (2 ^ 32)) (area result) }
 {
     Rect {
         x1: pen.before(&p.x),
@@ -100,6 +107,7 @@ fn along_column(pen: &Pen, p: &Point, q: &Point) -> Rect
 fn lesser(a: &i32, b: &i32) -> i64
     ensures value { result ≡ int_min a.now b.now }
     ensures small { IsCoordinate result }
+    ensures near { IsInReach result }
 {
     i64::from(if *b < *a { *b } else { *a })
 }
@@ -107,13 +115,16 @@ fn lesser(a: &i32, b: &i32) -> i64
 fn greater(a: &i32, b: &i32) -> i64
     ensures value { result ≡ int_max a.now b.now }
     ensures small { IsCoordinate result }
+    ensures near { IsInReach result }
 {
     i64::from(if *b < *a { *a } else { *b })
 }
 
 // Appends the squares at the points.
+#[tactic(auto, using(crate::proofs::Nearness::near_pushed))]
 fn push_squares(rects: &mut List<Rect>, pen: &Pen, points: &[Point]) -> Result<(), OutOfMemory>
-    ensures { OnOk result (map area rects.new ≡ map area rects.old ++ map (square pen.now.half) points.now) }
+    ensures areas { OnOk result (map area rects.new ≡ map area rects.old ++ map (square pen.now.half) points.now) }
+    ensures near { OnOk result (AreInReach rects.old → AreInReach rects.new) }
 {
     for point in points {
         rects.push(square_rect(pen, point))?;
@@ -122,7 +133,7 @@ fn push_squares(rects: &mut List<Rect>, pen: &Pen, points: &[Point]) -> Result<(
 }
 
 // Appends the squares at the ends.
-#[tactic(auto, using(crate::proofs::Paths::ends_pushed))]
+#[tactic(auto, using(crate::proofs::Paths::ends_pushed, crate::proofs::Nearness::near_pushed))]
 fn push_ends(
     rects: &mut List<Rect>,
     pen: &Pen,
@@ -130,7 +141,8 @@ fn push_ends(
     end: PathEnd,
 ) -> Result<(), OutOfMemory>
     requires { 2 ≤ length points.now }
-    ensures { OnOk result (map area rects.new ≡ map area rects.old ++ map (square pen.now.half) (squared_ends end points.now)) }
+    ensures areas { OnOk result (map area rects.new ≡ map area rects.old ++ map (square pen.now.half) (squared_ends end points.now)) }
+    ensures near { OnOk result (AreInReach rects.old → AreInReach rects.new) }
 {
     match end {
         PathEnd::Flush => Ok(()),
@@ -142,7 +154,8 @@ fn push_ends(
 }
 
 fn square_rect(pen: &Pen, p: &Point) -> Rect
-    ensures { area result ≡ square pen.now.half p.now }
+    ensures area { area result ≡ square pen.now.half p.now }
+    ensures near { IsWithin (pos (2 ^ 32)) (area result) }
 {
     Rect {
         x1: pen.before(&p.x),

@@ -12,6 +12,7 @@ pub struct Pen {
 impl Pen {
     ghost use Rattle.rt_base.specs.Plane.{IsCoordinate};
     ghost use Rattle.gds_slabs.specs.Path.{IsPathWidth, half_of};
+    ghost use Rattle.gds_slabs.specs.Steps.{IsInReach};
 
     /// The pen of a width, by its magnitude.
     pub fn new(width: i32) -> Pen
@@ -27,6 +28,7 @@ impl Pen {
     pub fn before(&self, coordinate: &i32) -> i64
         ensures value { result ≡ coordinate.now -ℤ self.now.half }
         ensures small { IsCoordinate result }
+        ensures near { IsInReach result }
     {
         i64::from(*coordinate) - self.half
     }
@@ -35,6 +37,7 @@ impl Pen {
     pub fn after(&self, coordinate: &i32) -> i64
         ensures value { result ≡ coordinate.now +ℤ self.now.half }
         ensures small { IsCoordinate result }
+        ensures near { IsInReach result }
     {
         i64::from(*coordinate) + self.half
     }

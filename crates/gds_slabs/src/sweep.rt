@@ -2,6 +2,7 @@ ghost use Rattle.std.specs.Prelude.{◌≡◌, ◌-◌, ◌^◌, ◌++◌, ◌<�
 ghost use Rattle.rt_base.specs.Plane.{area};
 ghost use Rattle.gds_slabs.specs.Polygon.{IsClosed, IsSlanted};
 ghost use Rattle.gds_slabs.specs.Slabs.{IsSlabs, IsSlabCount};
+ghost use Rattle.gds_slabs.specs.Steps.{AreInReach};
 ghost use Rattle.gds_slabs.specs.Sweep.{slab, step, swept};
 
 use crate::toggles::{Toggle, flip, sorted_toggles};
@@ -11,12 +12,14 @@ use std::collections::BTreeSet;
 
 /// The rectangles that a closed polygon without slanted sides becomes: between each two adjacent heights of its points,
 /// one for each run of the cells inside by the even-odd rule along rows, by rows and then by columns.
-/// Coordinates are in database units. OutOfMemory where there is no memory for the toggles or the rectangles.
+/// Coordinates are in database units, and no rectangle lies farther from the axes than 2^32. OutOfMemory where
+/// there is no memory for the toggles or the rectangles.
 /// (This project's own; what is inside is that of GDSII Release 6's BOUNDARY.)
 pub fn slabs(alloc: Global, points: &[Point]) -> Result<List<Rect>, OutOfMemory>
     requires closed { IsClosed points.now }
     requires straight { ¬ IsSlanted points.now }
-    ensures { IfOk result (λ list. IsSlabs points.now (map area list)) }
+    ensures slabs { IfOk result (λ list. IsSlabs points.now (map area list)) }
+    ensures near { IfOk result AreInReach }
 {
     let toggles = sorted_toggles(alloc, points)?;
     rects_of(alloc, &toggles)

@@ -3,7 +3,7 @@ use Rattle.gds_flat.specs.declared.item.Item.{Item}
 use Rattle.gds_flat.specs.Items.{Pieces}
 use Rattle.gds_flat.specs.Drawn.{pieces_in}
 use Rattle.gds_flat.proofs.Accepting.{top_finished}
-use Rattle.gds_flat.proofs.Flattening.{top_count, many_refused, layout_flat, layout_refused}
+use Rattle.gds_flat.proofs.Flattening.{top_count, many_refused, few_taken}
 use Rattle.gds_flat.proofs.flat.flatten_walk.Goals as goal
 
 pub rank_before-place-requires-clause-before : goal.rank_before-place-requires-clause-before
@@ -39,8 +39,8 @@ items-requires-clause-few c =
       few = c.if-count-gt-MOST_ITEMS.false;
     }
 
-pub returns-clause-ok : goal.returns-clause-ok
-returns-clause-ok c =
+pub flatten_items-requires-clause-few : goal.flatten_items-requires-clause-few
+flatten_items-requires-clause-few c =
     let library = c.args.names.now.structures.now in
     let top = c.args.names.now.top.now in
     let tech = c.args.tech.now in
@@ -49,20 +49,6 @@ returns-clause-ok c =
     let low = c.rank_before-place.ensures.below in
     let below : c.rank_before-place.result < length counts = omega arith in
     let P : List Item → Type 0 = λ xs. Pieces library tech top (pieces_in xs) in
-    layout_flat library top tech c.args.walk.now c.index-count.result.now c.as_slice.result.now c.layout_of.result c.requires.walk c.requires.drawable
+    few_taken library top tech c.args.walk.now (pieces_in c.as_slice.result.now) c.index-count.result.now c.requires.walk
     (top_count library top tech c.args.walk.now.finish.items counts c.rank_before-place.result c.index-count.result.now c.in_ok-counts.ensures c.rank_before-place.ensures.rank
-    below c.index-count.ensures) c.if-count-gt-MOST_ITEMS.false (subst P (sym c.as_slice.ensures) c.in_ok-items.ensures.pieces) c.layout_of.ensures.near c.layout_of.ensures.draws
-
-pub returns-clause-err : goal.returns-clause-err
-returns-clause-err c =
-    let library = c.args.names.now.structures.now in
-    let top = c.args.names.now.top.now in
-    let tech = c.args.tech.now in
-    let counts = c.in_ok-counts.counts.items in
-    let count : c.len.result ≡ length counts = search rules in
-    let low = c.rank_before-place.ensures.below in
-    let below : c.rank_before-place.result < length counts = omega arith in
-    let P : List Item → Type 0 = λ xs. Pieces library tech top (pieces_in xs) in
-    layout_refused library top tech c.args.walk.now c.index-count.result.now c.as_slice.result.now c.layout_of.result c.requires.walk
-    (top_count library top tech c.args.walk.now.finish.items counts c.rank_before-place.result c.index-count.result.now c.in_ok-counts.ensures c.rank_before-place.ensures.rank
-    below c.index-count.ensures) c.if-count-gt-MOST_ITEMS.false (subst P (sym c.as_slice.ensures) c.in_ok-items.ensures.pieces) c.layout_of.ensures.err
+    below c.index-count.ensures) c.if-count-gt-MOST_ITEMS.false (subst P (sym c.as_slice.ensures) c.in_ok-items.ensures.pieces)

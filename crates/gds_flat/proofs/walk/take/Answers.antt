@@ -11,10 +11,10 @@ visit-requires-clause-walk c =
 pub visit-requires-clause-first : goal.visit-requires-clause-first
 visit-requires-clause-first c = first_placed c.args.names.now.structures.now c.args.name.now c.in-Some.structure (sym c.in-Some.ensures)
 
-pub returns-in_ok-copied-in-None-clause-err : goal.returns-in_ok-copied-in-None-clause-err
-returns-in_ok-copied-in-None-clause-err c =
+pub returns-in_ok-copy-in-None-clause-err : goal.returns-in_ok-copy-in-None-clause-err
+returns-in_ok-copy-in-None-clause-err c =
     let library = c.args.names.now.structures.now in
     let none : place_named c.args.name.now library ≡ None = sym c.in-None.ensures in
-    rw (c.in_ok-copied-in-None.ensures)
+    rw (c.in_ok-copy-in-None.ensures)
     (c.requires.leads.missing c.args.name.now
     (here (none_among library c.args.walk.now.order.items c.args.name.now c.requires.marked.first none) (missing_placed library c.args.name.now none)))

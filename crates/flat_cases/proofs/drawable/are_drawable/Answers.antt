@@ -3,7 +3,7 @@ use Rattle.std.proofs.lemmas.List.{take_all, take_more}
 use Rattle.std.proofs.lemmas.List.Elements.{All-push}
 use Rattle.gds_stream.specs.declared.library.Element.{Element}
 use Rattle.gds_flat.specs.Drawn.{IsDrawable}
-use Rattle.gds_flat.proofs.counts_tests.are_drawable.Goals as goal
+use Rattle.flat_cases.proofs.drawable.are_drawable.Goals as goal
 
 pub loop-element-preserved : goal.loop-element-preserved
 loop-element-preserved c =
