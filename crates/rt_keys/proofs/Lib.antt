@@ -1,3 +1,4 @@
+pub mod Documents
 pub mod Lookups
 pub mod Naming
 pub mod Texts

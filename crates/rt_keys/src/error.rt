@@ -3,7 +3,7 @@ use rt_tech::TableCause;
 use thiserror::Error;
 
 /// Why a rule table or a sizes file is refused.
-#[derive(Debug, PartialEq, Eq, Drop, Error)]
+#[derive(Debug, Drop, Error)]
 pub enum TableError {
     /// The bytes aren't a TOML document.
     #[error("not TOML")]

@@ -1,7 +1,9 @@
-ghost use Rattle.std.specs.Prelude.{◌≡◌, ℕ, List as ListValue, bytes_eq, Some, IfOk, None, MatchOption};
+ghost use Rattle.std.specs.Prelude.{◌≡◌, ℕ, List as ListValue, bytes_eq, Some, None, MatchOption, if◌then◌else◌};
+ghost use Rattle.std.specs.Option.{option_or};
+ghost use Rattle.indexmap.specs.IndexMap.{get_by};
 ghost use Rattle.toml.specs.View.{view, items_view};
 ghost use Rattle.rt_keys.specs.Faults.{Reads};
-ghost use Rattle.rt_keys.specs.Names.{name_of as name_at, named, is_first as is_first_of};
+ghost use Rattle.rt_keys.specs.Names.{name_of as name_at, is_named, named, is_first as is_first_of};
 
 use crate::keys::member;
 use crate::names::Names;
@@ -20,6 +22,36 @@ fn name_of(value: &Value) -> Option<&str>
     }
 }
 
+// Keeps the number of an entry by this name, unless one before it has the name.
+fn keep<'a>(numbers: &mut IndexMap<&'a str, u32>, name: &'a str, place: usize) -> Result<(), Stop>
+    ensures { Reads result None (λ _. (q : ListValue ℕ) → get_by (λ k. bytes_eq q k.now) numbers.new ≡ option_or (get_by (λ k. bytes_eq q k.now) numbers.old) (if bytes_eq name.now q then Some place else None)) }
+{
+    if numbers.contains_key(name) {
+        return Ok(());
+    }
+    let Ok(number) = u32::try_from(place) else {
+        return Err(Stop::OutOfMemory);
+    };
+    match numbers.insert(name, number) {
+        Ok(_) => Ok(()),
+        Err(_) => Err(Stop::OutOfMemory),
+    }
+}
+
+// Keeps the number of an entry by its name, where it has one that no entry before it has.
+fn note<'a>(
+    numbers: &mut IndexMap<&'a str, u32>,
+    place: usize,
+    value: &'a Value,
+) -> Result<(), Stop>
+    ensures { Reads result None (λ _. (q : ListValue ℕ) → get_by (λ k. bytes_eq q k.now) numbers.new ≡ option_or (get_by (λ k. bytes_eq q k.now) numbers.old) (if is_named q (view value.now) then Some place else None)) }
+{
+    match name_of(value) {
+        Some(name) => keep(numbers, name, place),
+        None => Ok(()),
+    }
+}
+
 /// The entries of a list by their names, which stand at their keys `name`. What has no name is passed over. No entry
 /// is at fault: a stop is want of memory.
 pub fn names<'a>(alloc: Global, values: &'a [Value]) -> Result<Names<'a>, Stop>
@@ -27,19 +59,7 @@ pub fn names<'a>(alloc: Global, values: &'a [Value]) -> Result<Names<'a>, Stop>
 {
     let mut numbers = IndexMap::new(alloc);
     for (i, value) in values.iter().enumerate() {
-        let Some(name) = name_of(value) else {
-            continue;
-        };
-        if numbers.contains_key(name) {
-            continue;
-        }
-        let Ok(number) = u32::try_from(i) else {
-            return Err(Stop::OutOfMemory);
-        };
-        match numbers.insert(name, number) {
-            Ok(_) => {}
-            Err(_) => return Err(Stop::OutOfMemory),
-        }
+        note(&mut numbers, i, value)?;
     }
     Ok(Names { numbers, values })
 }

@@ -1,8 +1,9 @@
-ghost use Rattle.std.specs.Prelude.{◌≡◌, ℕ, nat_eq, None};
+ghost use Rattle.std.specs.Prelude.{◌≡◌, ℕ, nat_eq, Some, None, if◌then◌else◌};
+ghost use Rattle.std.specs.Option.{option_or};
 ghost use Rattle.indexmap.specs.IndexMap.{get};
 ghost use Rattle.toml.specs.View.{view, items_view};
 ghost use Rattle.rt_keys.specs.Faults.{Reads};
-ghost use Rattle.rt_keys.specs.Indexes.{as_index as as_index_of, index_of as index_at, indexed};
+ghost use Rattle.rt_keys.specs.Indexes.{as_index as as_index_of, index_of as index_at, has_index, indexed};
 
 use crate::keys::member;
 use crate::stop::Stop;
@@ -41,6 +42,32 @@ fn index_of(value: &Value) -> Option<u32>
     }
 }
 
+// Keeps the number of an entry with this index, unless one before it has the index.
+fn keep(numbers: &mut IndexMap<u32, u32>, index: u32, place: usize) -> Result<(), Stop>
+    ensures { Reads result None (λ _. (q : ℕ) → get nat_eq numbers.new q ≡ option_or (get nat_eq numbers.old q) (if nat_eq q index then Some place else None)) }
+{
+    if numbers.contains_key(&index) {
+        return Ok(());
+    }
+    let Ok(number) = u32::try_from(place) else {
+        return Err(Stop::OutOfMemory);
+    };
+    match numbers.insert(index, number) {
+        Ok(_) => Ok(()),
+        Err(_) => Err(Stop::OutOfMemory),
+    }
+}
+
+// Keeps the number of an entry by its index, where it has one that no entry before it has.
+fn note(numbers: &mut IndexMap<u32, u32>, place: usize, value: &Value) -> Result<(), Stop>
+    ensures { Reads result None (λ _. (q : ℕ) → get nat_eq numbers.new q ≡ option_or (get nat_eq numbers.old q) (if has_index q (view value.now) then Some place else None)) }
+{
+    match index_of(value) {
+        Some(index) => keep(numbers, index, place),
+        None => Ok(()),
+    }
+}
+
 /// The entries of a list by their indexes, which stand at their keys `index`. What has no index from 0 to
 /// 4,294,967,295 is passed over. No entry is at fault: a stop is want of memory.
 pub fn by_index<'a>(alloc: Global, values: &'a [Value]) -> Result<Indexes<'a>, Stop>
@@ -48,19 +75,7 @@ pub fn by_index<'a>(alloc: Global, values: &'a [Value]) -> Result<Indexes<'a>, S
 {
     let mut numbers = IndexMap::new(alloc);
     for (i, value) in values.iter().enumerate() {
-        let Some(index) = index_of(value) else {
-            continue;
-        };
-        if numbers.contains_key(&index) {
-            continue;
-        }
-        let Ok(number) = u32::try_from(i) else {
-            return Err(Stop::OutOfMemory);
-        };
-        match numbers.insert(index, number) {
-            Ok(_) => {}
-            Err(_) => return Err(Stop::OutOfMemory),
-        }
+        note(&mut numbers, i, value)?;
     }
     Ok(Indexes { numbers, values })
 }

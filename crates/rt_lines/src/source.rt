@@ -24,7 +24,7 @@ pub struct BrokenRule<'a> {
     pub q: Cell,
     /// The extent or the gap that was found.
     pub found: i64,
-    /// The least one that the rule allows.
+    /// What the rule asks for: of a size the one that it allows, of any other rule the least one.
     pub needed: i64,
 }
 

@@ -22,15 +22,12 @@ use Rattle.rt_keys.specs.Names.{named, is_first}
 use Rattle.rt_keys.specs.Numbers.{Measure, number_fault, length_fault, length_of}
 use Rattle.rt_sizes.specs.Refusals.{RefusesSizes}
 
--- the keys of a sizes file, of a kind's sizes and of a device's
+-- the keys of a sizes file, and of an entry of it: one that tells for what the sizes are, and two for the sizes
 abbrev pub sizes_keys : List (List ℕ)
 sizes_keys = codes "version" ∷ codes "cell" ∷ codes "mirror" ∷ codes "axis" ∷ codes "pivots" ∷ codes "kind" ∷ codes "device" ∷ codes "width_most" ∷ codes "height_most" ∷ codes "offset" ∷ []
 
-abbrev pub kind_keys : List (List ℕ)
-kind_keys = codes "name" ∷ codes "length" ∷ codes "width" ∷ []
-
-abbrev pub device_keys : List (List ℕ)
-device_keys = codes "index" ∷ codes "length" ∷ codes "width" ∷ []
+abbrev pub entry_keys : List ℕ → List (List ℕ)
+entry_keys key = key ∷ codes "length" ∷ codes "width" ∷ []
 
 -- sizes are lengths of the target table
 abbrev pub in_target : Tech → Measure
@@ -82,6 +79,19 @@ wish_fault measure entry = length_fault measure (pos 1) (codes "length") entry o
 abbrev pub wish_at : Measure → Members → Wish
 wish_at measure entry = record { length = length_of measure (codes "length") entry; width = length_of measure (codes "width") entry }
 
+-- an entry at a place of its list, when one key tells for what its sizes are and has this first fault
+unfoldable pub sized_fault : Tech → List ℕ → (ℕ → Members → Option Fault) → ℕ → Members → Option Fault
+sized_fault target key told place entry =
+    told place entry or_else wish_fault (in_target target) entry or_else others (entry_keys key) entry
+
+unfoldable pub entry_fault : Tech → List ℕ → (ℕ → Members → Option Fault) → List (ℕ × Wish) → Data → Option Fault
+entry_fault target key told before value =
+    test_here Form (is_some (as_table value)) or_else sized_fault target key told (length before) (as_members value)
+
+-- what an entry says, when a key tells this number
+unfoldable pub entry_sizes : Tech → (Members → ℕ) → Data → ℕ × Wish
+entry_sizes target number value = (number (as_members value), wish_at (in_target target) (as_members value))
+
 -- the first kind by a name, with its number, when the first of the list has number i
 abbrev pub kind_from : ℕ → List ℕ → List Kind → Option (ℕ × Kind)
 kind_from i name [] = None
@@ -104,23 +114,20 @@ abbrev pub kind_number : Tech → Members → ℕ
 kind_number target entry = unwrap_or (option_map (λ found. found.0) (kind_told target entry)) 0
 
 -- an entry of the kinds
-unfoldable pub kind_table_fault : Tech → ℕ → Items → Members → Option Fault
-kind_table_fault target place kinds entry =
-    kind_name_fault target place kinds entry or_else wish_fault (in_target target) entry or_else others kind_keys entry
+abbrev pub kind_fault : Tech → Items → List (ℕ × Wish) → Data → Option Fault
+kind_fault target kinds = entry_fault target (codes "name") (λ place. kind_name_fault target place kinds)
 
-unfoldable pub kind_fault : Tech → Items → List (ℕ × Wish) → Data → Option Fault
-kind_fault target kinds before value =
-    test_here Form (is_some (as_table value)) or_else kind_table_fault target (length before) kinds (as_members value)
-
-unfoldable pub kind_sizes : Tech → Data → ℕ × Wish
-kind_sizes target value = (kind_number target (as_members value), wish_at (in_target target) (as_members value))
+abbrev pub kind_sizes : Tech → Data → ℕ × Wish
+kind_sizes target = entry_sizes target (kind_number target)
 
 -- kind, where it is there
+unfoldable pub kinds_there : Tech → Members → Option Fault
+kinds_there target file =
+    wanted as_array (codes "kind") file
+    or_else within (codes "kind") (each (kind_fault target (list (codes "kind") file)) (kind_sizes target) [] (list (codes "kind") file))
+
 unfoldable pub kinds_fault : Tech → Members → Option Fault
-kinds_fault target file =
-    if has (codes "kind") file then
-    wanted as_array (codes "kind") file or_else within (codes "kind") (each (kind_fault target (list (codes "kind") file)) (kind_sizes target) [] (list (codes "kind") file))
-    else None
+kinds_fault target file = if has (codes "kind") file then kinds_there target file else None
 
 abbrev pub kinds_of : Tech → Members → List (ℕ × Wish)
 kinds_of target file = entries_of (kind_sizes target) (list (codes "kind") file)
@@ -131,24 +138,24 @@ index_fault place devices entry =
     number_fault (pos 0) (pos 4294967295) (codes "index") entry
     or_else test (codes "index") Duplicate (is_first place (indexed (nat_abs (number (codes "index") entry)) devices))
 
--- an entry of the devices
-unfoldable pub device_table_fault : Tech → ℕ → Items → Members → Option Fault
-device_table_fault target place devices entry =
-    index_fault place devices entry or_else wish_fault (in_target target) entry or_else others device_keys entry
+-- an entry of the devices, and the index that it tells
+abbrev pub index_told : Members → ℕ
+index_told entry = nat_abs (number (codes "index") entry)
 
-unfoldable pub device_fault : Tech → Items → List (ℕ × Wish) → Data → Option Fault
-device_fault target devices before value =
-    test_here Form (is_some (as_table value)) or_else device_table_fault target (length before) devices (as_members value)
+abbrev pub device_fault : Tech → Items → List (ℕ × Wish) → Data → Option Fault
+device_fault target devices = entry_fault target (codes "index") (λ place. index_fault place devices)
 
-unfoldable pub device_sizes : Tech → Data → ℕ × Wish
-device_sizes target value = (nat_abs (number (codes "index") (as_members value)), wish_at (in_target target) (as_members value))
+abbrev pub device_sizes : Tech → Data → ℕ × Wish
+device_sizes target = entry_sizes target index_told
 
 -- device, where it is there
+unfoldable pub devices_there : Tech → Members → Option Fault
+devices_there target file =
+    wanted as_array (codes "device") file
+    or_else within (codes "device") (each (device_fault target (list (codes "device") file)) (device_sizes target) [] (list (codes "device") file))
+
 unfoldable pub devices_fault : Tech → Members → Option Fault
-devices_fault target file =
-    if has (codes "device") file then
-    wanted as_array (codes "device") file or_else within (codes "device") (each (device_fault target (list (codes "device") file)) (device_sizes target) [] (list (codes "device") file))
-    else None
+devices_fault target file = if has (codes "device") file then devices_there target file else None
 
 abbrev pub devices_of : Tech → Members → List (ℕ × Wish)
 devices_of target file = entries_of (device_sizes target) (list (codes "device") file)
@@ -161,6 +168,14 @@ later_fault file =
     or_else unwanted (codes "offset") file
     or_else unwanted (codes "resistor") file
 
+-- the lists of a sizes file, then the keys that may not be there
+unfoldable pub lists_fault : Tech → Members → Option Fault
+lists_fault target file =
+    kinds_fault target file
+    or_else devices_fault target file
+    or_else later_fault file
+    or_else others sizes_keys file
+
 -- the first fault of a sizes file for this target table
 unfoldable pub sizes_fault : Tech → Members → Option Fault
 sizes_fault target file =
@@ -168,10 +183,7 @@ sizes_fault target file =
     or_else cell_fault file
     or_else mirror_fault file
     or_else pivots_fault file
-    or_else kinds_fault target file
-    or_else devices_fault target file
-    or_else later_fault file
-    or_else others sizes_keys file
+    or_else lists_fault target file
 
 -- what a sizes file without faults says
 abbrev pub sizes_of : Tech → Members → Sizes

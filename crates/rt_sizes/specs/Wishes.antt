@@ -1,6 +1,7 @@
 -- The sizes that the devices of a cell are given.
 use Rattle.std.specs.Prelude.{◌≡◌, ℕ, ◌+◌, nat_eq, nat_lt, List, [], ◌∷◌, length, map, Option, Some, None, is_some, codes}
 use Rattle.std.specs.Map.{lookup}
+use Rattle.std.specs.Option.{option_or}
 use Rattle.std.specs.Fmt.{decimal}
 use Rattle.rt_tech.specs.declared.table.TableCause.TheVariants.{Missing, Range}
 use Rattle.rt_tech.specs.declared.sizes.Sizes.{Sizes}
@@ -12,14 +13,9 @@ use Rattle.rt_keys.specs.Faults.{◌or_else◌, test, within}
 abbrev pub given : ℕ → List (ℕ × Wish) → Option Wish
 given n entries = lookup (nat_eq n) entries
 
--- the first of two sizes that is there
-abbrev pub first_wish : Option Wish → Option Wish → Option Wish
-first_wish None later = later
-first_wish (Some wish) later = Some wish
-
 -- the sizes of a device of this kind: its own entry goes before its kind's
 abbrev pub wish_of : Sizes → ℕ → ℕ → Option Wish
-wish_of sizes device kind = first_wish (given device sizes.devices) (given kind sizes.kinds)
+wish_of sizes device kind = option_or (given device sizes.devices) (given kind sizes.kinds)
 
 -- an entry for a device that isn't there, when there are count of them. The list begins at entry number i
 abbrev pub stray_fault : ℕ → ℕ → List (ℕ × Wish) → Option Fault

@@ -1,4 +1,5 @@
-ghost use Rattle.std.specs.Prelude.{◌≡◌, ℕ, nat_eq, IfOk, Some};
+ghost use Rattle.std.specs.Prelude.{◌≡◌, ℕ, nat_eq, IfOk, Some, None, if◌then◌else◌};
+ghost use Rattle.std.specs.Option.{option_or};
 ghost use Rattle.indexmap.specs.IndexMap.{get};
 ghost use Rattle.rt_sizes.specs.Wishes.{given, wish_of as wish_in};
 
@@ -17,20 +18,26 @@ pub(crate) struct Book<'a> {
     ghost by_kind: { (n : ℕ) → get nat_eq shared n ≡ given n sizes.now.kinds },
 }
 
+// Keeps the sizes of an entry by its number, unless an entry before it has the number.
+fn keep(found: &mut IndexMap<usize, Wish>, number: usize, wish: Wish) -> Result<(), OutOfMemory>
+    ensures { IfOk result (λ _. (n : ℕ) → get nat_eq found.new n ≡ option_or (get nat_eq found.old n) (if nat_eq n number then Some wish else None)) }
+{
+    if found.contains_key(&number) {
+        return Ok(());
+    }
+    match found.insert(number, wish) {
+        Ok(_) => Ok(()),
+        Err(_) => Err(OutOfMemory),
+    }
+}
+
 // The entries of a list by their numbers.
 fn by_number(alloc: Global, entries: &[(u32, Wish)]) -> Result<IndexMap<usize, Wish>, OutOfMemory>
     ensures { IfOk result (λ m. (n : ℕ) → get nat_eq m n ≡ given n entries.now) }
 {
     let mut found = IndexMap::new(alloc);
     for (number, wish) in entries {
-        let key = *number as usize;
-        if found.contains_key(&key) {
-            continue;
-        }
-        match found.insert(key, *wish) {
-            Ok(_) => {}
-            Err(_) => return Err(OutOfMemory),
-        }
+        keep(&mut found, *number as usize, *wish)?;
     }
     Ok(found)
 }

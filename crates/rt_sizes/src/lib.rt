@@ -4,8 +4,6 @@
 mod book;
 mod sizes_entries;
 mod sizes_file;
-#[cfg(test)]
-mod tests;
 mod wishing;
 
 pub use sizes_file::read_sizes;

@@ -1,10 +1,10 @@
-ghost use Rattle.std.specs.Prelude.{◌≡◌, ◌+◌, ℕ, false, true, nat_abs, Some, None, IfSome, MatchOption, codes, option_map};
-ghost use Rattle.std.specs.Option.{option_map_or};
+ghost use Rattle.std.specs.Prelude.{◌≡◌, ℕ, Option, Some, None, MatchOption, codes};
+ghost use Rattle.toml.specs.Data.{Members};
 ghost use Rattle.toml.specs.View.{view, table_view, items_view};
 ghost use Rattle.rt_tech.specs.Tech.{IsGrid};
-ghost use Rattle.rt_keys.specs.Document.{number as number_at, word as word_at, list as list_at};
+ghost use Rattle.rt_keys.specs.declared.stop.Fault.{Fault as FaultValue};
 ghost use Rattle.rt_keys.specs.Faults.{Reads};
-ghost use Rattle.rt_sizes.specs.SizesFile.{in_target, kind_from, kind_told, kind_name_fault, kind_number as kind_number_of, kind_table_fault, kind_fault, kind_sizes, kinds_fault, kinds_of, index_fault, device_table_fault, device_fault, device_sizes, devices_fault, devices_of, wish_fault, wish_at};
+ghost use Rattle.rt_sizes.specs.SizesFile.{in_target, sized_fault, entry_fault, entry_sizes, kind_from, kind_name_fault, kind_number, kinds_there as kinds_there_fault, kinds_fault, kinds_of, index_fault, index_told, devices_there as devices_there_fault, devices_fault, devices_of, wish_fault, wish_at};
 
 use rt_base::List;
 use rt_keys::entries::{Entry, entries};
@@ -19,10 +19,15 @@ use rt_tech::{Kind, TableCause, Tech, Which, Wish};
 use std::alloc::Global;
 use toml::{Table, Value};
 
-// The keys of a kind's sizes and of a device's.
-const KIND_KEYS: [&str; 3] = ["name", "length", "width"];
+// How an entry tells for what its sizes are: by one key, at its place in a list.
+trait Told {
+    ghost fault: { Self → ℕ → Members → Option FaultValue };
 
-const DEVICE_KEYS: [&str; 3] = ["index", "length", "width"];
+    ghost number: { Self → Members → ℕ };
+
+    fn number(&self, alloc: Global, place: usize, entry: &Table) -> Result<u32, Stop>
+        ensures { Reads result (fault self.now place (table_view entry.now)) (λ n. n ≡ number self.now (table_view entry.now)) };
+}
 
 // The first kind by a name, with its number.
 fn kind_named<'a>(kinds: &'a [Kind], name: &str) -> Option<(usize, &'a Kind)>
@@ -54,66 +59,39 @@ fn wish(alloc: Global, target: &Tech, entry: &Table) -> Result<Wish, Stop>
     })
 }
 
-// The number of the kind that an entry names.
-#[tactic(auto, unfolding(crate::specs::SizesFile::kind_name_fault))]
-fn kind_number(
-    alloc: Global,
-    target: &Tech,
-    names: &Names,
-    place: usize,
-    entry: &Table,
-) -> Result<u32, Stop>
-    ensures { Reads result (kind_name_fault target.now place (items_view names.now.values.now) (table_view entry.now)) (λ n. n ≡ kind_number_of target.now (table_view entry.now)) }
-{
-    let name = word(alloc, entry, "name")?;
-    tested(
-        alloc,
-        "name",
-        TableCause::Duplicate,
-        is_first(place, find(names, name)),
-    )?;
-    let Some((number, kind)) = kind_named(target.kinds.as_slice(), name) else {
-        return Err(refused(alloc, "name", TableCause::Name));
-    };
-    tested(alloc, "name", TableCause::Role, kind.device)?;
-    match u32::try_from(number) {
-        Ok(number) => Ok(number),
-        Err(_) => Err(Stop::OutOfMemory),
-    }
-}
-
-// How an entry of the kinds is read.
+// How an entry of a list is read, whose key tells for what its sizes are.
 #[derive(Drop)]
-struct KindRule<'a> {
+struct SizesRule<'a, T> {
     target: &'a Tech,
-    names: Names<'a>,
+    key: &'a str,
+    told: &'a T,
     ghost grid_in_range: { IsGrid target.now.grid },
 }
 
-// The sizes of a kind.
-#[tactic(auto, unfolding(crate::specs::SizesFile::kind_table_fault))]
-fn kind_entry(
+// The sizes of an entry, by the number of what they are for.
+#[tactic(auto, unfolding(crate::specs::SizesFile::sized_fault))]
+fn sized<T: Told>(
     alloc: Global,
-    rule: &KindRule,
+    rule: &SizesRule<T>,
     place: usize,
     entry: &Table,
 ) -> Result<(u32, Wish), Stop>
-    ensures { Reads result (kind_table_fault rule.now.target.now place (items_view rule.now.names.values.now) (table_view entry.now)) (λ p. p ≡ (kind_number_of rule.now.target.now (table_view entry.now), wish_at (in_target rule.now.target.now) (table_view entry.now))) }
+    ensures { Reads result (sized_fault rule.now.target.now rule.now.key.now (T.fault rule.now.told.now) place (table_view entry.now)) (λ p. p ≡ (T.number rule.now.told.now (table_view entry.now), wish_at (in_target rule.now.target.now) (table_view entry.now))) }
 {
-    let number = kind_number(alloc, rule.target, &rule.names, place, entry)?;
+    let number = rule.told.number(alloc, place, entry)?;
     let wish = wish(alloc, rule.target, entry)?;
-    others(alloc, entry, &KIND_KEYS)?;
+    others(alloc, entry, &[rule.key, "length", "width"])?;
     Ok((number, wish))
 }
 
-impl Entry for KindRule<'_> {
+impl<T: Told> Entry for SizesRule<'_, T> {
     type Item = (u32, Wish);
 
-    ghost fault = { λ rule. kind_fault rule.target.now (items_view rule.names.values.now) };
+    ghost fault = { λ rule. entry_fault rule.target.now rule.key.now (T.fault rule.told.now) };
 
-    ghost gives = { λ rule. kind_sizes rule.target.now };
+    ghost gives = { λ rule. entry_sizes rule.target.now (T.number rule.told.now) };
 
-    #[tactic(auto, unfolding(crate::specs::SizesFile::kind_fault, crate::specs::SizesFile::kind_sizes))]
+    #[tactic(auto, unfolding(crate::specs::SizesFile::entry_fault, crate::specs::SizesFile::entry_sizes))]
     fn read(
         &self,
         alloc: Global,
@@ -121,9 +99,58 @@ impl Entry for KindRule<'_> {
         value: &Value,
     ) -> Result<(u32, Wish), Stop> {
         let table = entry_table(alloc, value)?;
-        let sizes = kind_entry(alloc, self, before.len(), table)?;
+        let sizes = sized(alloc, self, before.len(), table)?;
         Ok(sizes)
     }
+}
+
+// The kinds of a target, named by entries with these names.
+#[derive(Drop)]
+struct KindNames<'a> {
+    target: &'a Tech,
+    names: Names<'a>,
+}
+
+impl Told for KindNames<'_> {
+    ghost fault = { λ told place. kind_name_fault told.target.now place (items_view told.names.values.now) };
+
+    ghost number = { λ told. kind_number told.target.now };
+
+    #[tactic(auto, unfolding(crate::specs::SizesFile::kind_name_fault))]
+    fn number(&self, alloc: Global, place: usize, entry: &Table) -> Result<u32, Stop> {
+        let name = word(alloc, entry, "name")?;
+        tested(
+            alloc,
+            "name",
+            TableCause::Duplicate,
+            is_first(place, find(&self.names, name)),
+        )?;
+        let Some((number, kind)) = kind_named(self.target.kinds.as_slice(), name) else {
+            return Err(refused(alloc, "name", TableCause::Name));
+        };
+        tested(alloc, "name", TableCause::Role, kind.device)?;
+        match u32::try_from(number) {
+            Ok(number) => Ok(number),
+            Err(_) => Err(Stop::OutOfMemory),
+        }
+    }
+}
+
+// The sizes of kinds, which the file has.
+#[tactic(auto, unfolding(crate::specs::SizesFile::kinds_there))]
+fn kinds_there(alloc: Global, target: &Tech, file: &Table) -> Result<List<(u32, Wish)>, Stop>
+    requires { IsGrid target.now.grid }
+    ensures { Reads result (kinds_there_fault target.now (table_view file.now)) (λ l. l ≡ kinds_of target.now (table_view file.now)) }
+{
+    let values = list(alloc, file, "kind")?.as_slice();
+    let names = names(alloc, values)?;
+    let told = KindNames { target, names };
+    let rule = SizesRule {
+        target,
+        key: "name",
+        told: &told,
+    };
+    at(alloc, "kind", entries(alloc, &rule, values))
 }
 
 // The sizes of kinds, where the file has some.
@@ -132,73 +159,46 @@ pub(crate) fn kinds(alloc: Global, target: &Tech, file: &Table) -> Result<List<(
     requires { IsGrid target.now.grid }
     ensures { Reads result (kinds_fault target.now (table_view file.now)) (λ l. l ≡ kinds_of target.now (table_view file.now)) }
 {
-    if !has(file, "kind") {
-        return Ok(List::new(alloc));
+    if has(file, "kind") {
+        kinds_there(alloc, target, file)
+    } else {
+        Ok(List::new(alloc))
     }
-    let values = list(alloc, file, "kind")?.as_slice();
-    let names = names(alloc, values)?;
-    let rule = KindRule { target, names };
-    at(alloc, "kind", entries(alloc, &rule, values))
 }
 
-// The index of an entry of the devices.
-#[tactic(auto, unfolding(crate::specs::SizesFile::index_fault))]
-fn device_index(alloc: Global, indexes: &Indexes, place: usize, entry: &Table) -> Result<u32, Stop>
-    ensures { Reads result (index_fault place (items_view indexes.now.values.now) (table_view entry.now)) (λ n. n ≡ nat_abs (number_at (codes "index") (table_view entry.now))) }
-{
-    let number = number_within(alloc, entry, "index", 0, 4_294_967_295)?;
-    let index = number as u32;
-    tested(
-        alloc,
-        "index",
-        TableCause::Duplicate,
-        is_first(place, find_index(indexes, index)),
-    )?;
-    Ok(index)
-}
+impl Told for Indexes<'_> {
+    ghost fault = { λ told place. index_fault place (items_view told.values.now) };
 
-// How an entry of the devices is read.
-#[derive(Drop)]
-struct DeviceRule<'a> {
-    target: &'a Tech,
-    indexes: Indexes<'a>,
-    ghost grid_in_range: { IsGrid target.now.grid },
-}
+    ghost number = { λ told. index_told };
 
-// The sizes of a device.
-#[tactic(auto, unfolding(crate::specs::SizesFile::device_table_fault))]
-fn device_entry(
-    alloc: Global,
-    rule: &DeviceRule,
-    place: usize,
-    entry: &Table,
-) -> Result<(u32, Wish), Stop>
-    ensures { Reads result (device_table_fault rule.now.target.now place (items_view rule.now.indexes.values.now) (table_view entry.now)) (λ p. p ≡ (nat_abs (number_at (codes "index") (table_view entry.now)), wish_at (in_target rule.now.target.now) (table_view entry.now))) }
-{
-    let index = device_index(alloc, &rule.indexes, place, entry)?;
-    let wish = wish(alloc, rule.target, entry)?;
-    others(alloc, entry, &DEVICE_KEYS)?;
-    Ok((index, wish))
-}
-
-impl Entry for DeviceRule<'_> {
-    type Item = (u32, Wish);
-
-    ghost fault = { λ rule. device_fault rule.target.now (items_view rule.indexes.values.now) };
-
-    ghost gives = { λ rule. device_sizes rule.target.now };
-
-    #[tactic(auto, unfolding(crate::specs::SizesFile::device_fault, crate::specs::SizesFile::device_sizes))]
-    fn read(
-        &self,
-        alloc: Global,
-        before: &[(u32, Wish)],
-        value: &Value,
-    ) -> Result<(u32, Wish), Stop> {
-        let table = entry_table(alloc, value)?;
-        let sizes = device_entry(alloc, self, before.len(), table)?;
-        Ok(sizes)
+    #[tactic(auto, unfolding(crate::specs::SizesFile::index_fault))]
+    fn number(&self, alloc: Global, place: usize, entry: &Table) -> Result<u32, Stop> {
+        let number = number_within(alloc, entry, "index", 0, 4_294_967_295)?;
+        let index = number as u32;
+        tested(
+            alloc,
+            "index",
+            TableCause::Duplicate,
+            is_first(place, find_index(self, index)),
+        )?;
+        Ok(index)
     }
+}
+
+// The sizes of single devices, which the file has.
+#[tactic(auto, unfolding(crate::specs::SizesFile::devices_there))]
+fn devices_there(alloc: Global, target: &Tech, file: &Table) -> Result<List<(u32, Wish)>, Stop>
+    requires { IsGrid target.now.grid }
+    ensures { Reads result (devices_there_fault target.now (table_view file.now)) (λ l. l ≡ devices_of target.now (table_view file.now)) }
+{
+    let values = list(alloc, file, "device")?.as_slice();
+    let indexes = by_index(alloc, values)?;
+    let rule = SizesRule {
+        target,
+        key: "index",
+        told: &indexes,
+    };
+    at(alloc, "device", entries(alloc, &rule, values))
 }
 
 // The sizes of single devices, where the file has some.
@@ -207,11 +207,9 @@ pub(crate) fn devices(alloc: Global, target: &Tech, file: &Table) -> Result<List
     requires { IsGrid target.now.grid }
     ensures { Reads result (devices_fault target.now (table_view file.now)) (λ l. l ≡ devices_of target.now (table_view file.now)) }
 {
-    if !has(file, "device") {
-        return Ok(List::new(alloc));
+    if has(file, "device") {
+        devices_there(alloc, target, file)
+    } else {
+        Ok(List::new(alloc))
     }
-    let values = list(alloc, file, "device")?.as_slice();
-    let indexes = by_index(alloc, values)?;
-    let rule = DeviceRule { target, indexes };
-    at(alloc, "device", entries(alloc, &rule, values))
 }

@@ -4,7 +4,7 @@ ghost use Rattle.toml.specs.View.{view, table_view, items_view};
 ghost use Rattle.rt_tech.specs.Tech.{IsGrid};
 ghost use Rattle.rt_keys.specs.Document.{number as number_at, word as word_at, list as list_at};
 ghost use Rattle.rt_keys.specs.Faults.{Reads, others as others_of};
-ghost use Rattle.rt_sizes.specs.SizesFile.{is_printable as is_printable_of, is_cell as is_cell_of, is_mirror as is_mirror_of, cell_fault, mirror_fault, mirror_of, pivots_fault, pivots_of, later_fault, sizes_fault, sizes_of, DescribesSizes, RefusesFile};
+ghost use Rattle.rt_sizes.specs.SizesFile.{is_printable as is_printable_of, is_cell as is_cell_of, is_mirror as is_mirror_of, cell_fault, mirror_fault, mirror_of, pivots_fault, pivots_of, later_fault, kinds_of, devices_of, lists_fault, sizes_fault, sizes_of, DescribesSizes, RefusesFile};
 
 use crate::sizes_entries::{devices, kinds};
 use rt_base::{List, Text};
@@ -12,7 +12,7 @@ use rt_keys::TableError;
 use rt_keys::keys::{document, has, others, unwanted, word};
 use rt_keys::numbers::number_within;
 use rt_keys::stop::{Stop, bad_sizes, printable, tested};
-use rt_tech::{Mirror, Sizes, TableCause, Tech};
+use rt_tech::{Mirror, Sizes, TableCause, Tech, Wish};
 use std::alloc::Global;
 use toml::Table;
 
@@ -65,12 +65,12 @@ fn cell_text(alloc: Global, bytes: &[u8]) -> Result<Text, Stop>
 
 // The name of the cell.
 #[tactic(auto, unfolding(crate::specs::SizesFile::cell_fault))]
-fn cell(alloc: Global, file: &Table) -> Result<Text, Stop>
-    ensures { Reads result (cell_fault (table_view file.now)) (λ t. t ≡ word_at (codes "cell") (table_view file.now)) }
+fn cell<'a>(alloc: Global, file: &'a Table) -> Result<&'a str, Stop>
+    ensures { Reads result (cell_fault (table_view file.now)) (λ s. (s.now ≡ word_at (codes "cell") (table_view file.now)) × (is_cell_of s.now ≡ true)) }
 {
     let name = word(alloc, file, "cell")?;
     tested(alloc, "cell", TableCause::Range, is_cell(name.as_bytes()))?;
-    cell_text(alloc, name.as_bytes())
+    Ok(name)
 }
 
 // Whether the word names a mirror.
@@ -124,6 +124,23 @@ fn later(alloc: Global, file: &Table) -> Result<(), Stop>
     unwanted(alloc, file, "resistor")
 }
 
+// The sizes of kinds and of devices, after which the file has no other key.
+#[tactic(auto, unfolding(crate::specs::SizesFile::lists_fault))]
+fn lists(
+    alloc: Global,
+    target: &Tech,
+    file: &Table,
+) -> Result<(List<(u32, Wish)>, List<(u32, Wish)>), Stop>
+    requires { IsGrid target.now.grid }
+    ensures { Reads result (lists_fault target.now (table_view file.now)) (λ p. (p.0 ≡ kinds_of target.now (table_view file.now)) × (p.1 ≡ devices_of target.now (table_view file.now))) }
+{
+    let kinds = kinds(alloc, target, file)?;
+    let devices = devices(alloc, target, file)?;
+    later(alloc, file)?;
+    others(alloc, file, &SIZES_KEYS)?;
+    Ok((kinds, devices))
+}
+
 // What the file says.
 #[tactic(auto, unfolding(crate::specs::SizesFile::sizes_fault))]
 fn sizes(alloc: Global, target: &Tech, file: &Table) -> Result<Sizes, Stop>
@@ -131,13 +148,11 @@ fn sizes(alloc: Global, target: &Tech, file: &Table) -> Result<Sizes, Stop>
     ensures { Reads result (sizes_fault target.now (table_view file.now)) (λ s. s ≡ sizes_of target.now (table_view file.now)) }
 {
     number_within(alloc, file, "version", 1, 1)?;
-    let cell = cell(alloc, file)?;
+    let name = cell(alloc, file)?;
     let mirror = mirror(alloc, file)?;
     let pivots = pivots(alloc, file)?;
-    let kinds = kinds(alloc, target, file)?;
-    let devices = devices(alloc, target, file)?;
-    later(alloc, file)?;
-    others(alloc, file, &SIZES_KEYS)?;
+    let (kinds, devices) = lists(alloc, target, file)?;
+    let cell = cell_text(alloc, name.as_bytes())?;
     Ok(Sizes {
         cell,
         mirror,

@@ -100,3 +100,7 @@ none_pass p (x ∷ xs) h =
 pub not_so : (b : Bool) → not b ≡ true → b ≡ false
 not_so true h = cc
 not_so false h = refl
+
+-- a test doesn't both hold and fail
+pub never_both : (b : Bool) → b ≡ true → b ≡ false → ⊥
+never_both b holds fails = cc

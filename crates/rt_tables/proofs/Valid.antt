@@ -6,16 +6,17 @@ use Rattle.rt_tech.specs.declared.limits.TheConstants.{GRID_LIMIT}
 use Rattle.rt_tech.specs.declared.table.Tech.{Tech}
 use Rattle.rt_tech.specs.declared.table.Which.{Which}
 use Rattle.rt_tech.specs.Tech.{IsGrid, IsIgnorable, IsValidTech}
-use Rattle.rt_keys.specs.Document.{IsDocument, number, list, as_list}
+use Rattle.rt_keys.specs.Document.{number, list, as_list}
 use Rattle.rt_keys.specs.Faults.{test_here, wanted, allowed}
 use Rattle.rt_tables.specs.Kinds.{kinds_fault}
 use Rattle.rt_keys.specs.Numbers.{number_fault, place_fault, pair_fault}
 use Rattle.rt_tables.specs.Masks.{mask_of}
 use Rattle.rt_tables.specs.Rules.{encloses_fault, channel_fault, aparts_fault}
-use Rattle.rt_tables.specs.Tables.{measure_in, units_fault, unlisted_fault, ignored_fault, ignored_of, ignore_fault, ignored_in, masks_in, masks_listed, rules_fault, tech_fault, tech_in, IsTechOf, HasTableFault}
+use Rattle.rt_tables.specs.Tables.{measure_in, units_fault, unlisted_fault, ignored_fault, ignored_of, ignore_fault, ignored_in, masks_in, masks_listed, later_rules_fault, rules_fault, listed_fault, contents_fault, tech_fault, tech_in, IsTechOf, HasTableFault}
 use Rattle.rt_keys.specs.declared.error.TableError.{TableError}
 use Rattle.rt_tech.specs.declared.table.TableCause.TheVariants.{Form}
 use Rattle.rt_tables.proofs.Clear.{or_parts, within_clear, Follows, each_follows, all_follow}
+use Rattle.rt_keys.proofs.Documents.{same_document}
 use Rattle.rt_keys.proofs.Lookups.{count_of_entries}
 use Rattle.rt_tables.proofs.Limits.{number_limits}
 use Rattle.rt_tables.proofs.ValidKinds.{channels_facts}
@@ -39,7 +40,7 @@ all_ignorable doc h =
     all_follow P IsIgnorable (ignored_in doc) follow (λ before pair facts. facts)
 
 valid_tech : (which : Which) (doc : Members) → tech_fault which doc ≡ None → IsValidTech (tech_in which doc)
-unfolding tech_fault rules_fault tech_in
+unfolding tech_fault contents_fault listed_fault rules_fault later_rules_fault tech_in
 valid_tech which doc h =
     let measure = measure_in which doc in
     let values = list (codes "mask") doc in
@@ -73,10 +74,6 @@ valid_tech which doc h =
 
 pub valid_table : (which : Which) (bytes : List ℕ) (t : Tech) → IsTechOf which bytes t → IsValidTech t
 valid_table which bytes t h = subst IsValidTech (sym h.says) (valid_tech which h.members h.no_fault)
-
--- bytes are one document at most
-same_document : (bytes : List ℕ) (a b : Members) → IsDocument bytes a → IsDocument bytes b → a ≡ b
-same_document bytes a b x y = cc
 
 pub same_table : (which : Which) (bytes : List ℕ) (t u : Tech) → IsTechOf which bytes t → IsTechOf which bytes u → t ≡ u
 same_table which bytes t u x y =

@@ -16,12 +16,12 @@ use Rattle.rt_tech.specs.Tech.{IsGrid, IsLength, IsReach, IsValidNear, AreValidN
 use Rattle.rt_tech.specs.Words.{has_role}
 use Rattle.rt_keys.specs.Document.{word, list, inner, as_members, count}
 use Rattle.rt_keys.specs.Faults.{test, test_here, within, wanted, unwanted, others, each}
-use Rattle.rt_tables.specs.Kinds.{background_fault, near_keys, near_table_fault, near_fault, near_of, nears_fault, nears_of, kind_name_fault, kind_table_fault, kind_fault, kind_of, parted_fault, kinds_at, kinds_there, kinds_fault, kinds_of}
+use Rattle.rt_tables.specs.Kinds.{background_fault, near_keys, near_table_fault, near_fault, near_of, nears_fault, nears_of, kind_name_fault, kind_table_fault, backgrounds_fault, kind_fault, kind_of, parted_fault, kinds_at, kinds_there, kinds_listed, kinds_fault, kinds_of}
 use Rattle.rt_tables.specs.Masks.{is_name, named_fault, numbered}
 use Rattle.rt_keys.specs.Names.{named}
 use Rattle.rt_keys.specs.Numbers.{Measure, length_fault, length_of}
 use Rattle.rt_tables.specs.Rules.{channel_there, channel_fault, gates_at, gates_of}
-use Rattle.rt_tables.proofs.Clear.{test_holds, here_holds, or_parts, within_clear, Follows, each_follows, all_follow, pairs_follow, called_apart, each_passes, none_pass, not_so}
+use Rattle.rt_tables.proofs.Clear.{test_holds, here_holds, or_parts, within_clear, Follows, each_follows, all_follow, pairs_follow, called_apart, each_passes, none_pass, not_so, never_both}
 use Rattle.rt_tables.proofs.Limits.{length_limits, reach_limits, name_limits}
 use Rattle.rt_keys.proofs.Lookups.{count_of_entries}
 use Rattle.rt_tables.proofs.ValidMasks.{found_first}
@@ -31,9 +31,6 @@ use Rattle.rt_tables.proofs.ValidRules.{gates_facts}
 record IsReadNear (Number : ℤ → Type 0) (masks : List Mask) (before : List Near) (near : Near) : Type 0 where
   valid : IsValidNear Number masks near
   fresh : All (λ other. other.mask ≢ near.mask) before
-
-differs : (b : Bool) → b ≡ true → b ≡ false → ⊥
-differs b t f = cc
 
 one_mask : (m n : ℕ) → m ≡ n → (m == n) ≡ true
 one_mask m n same = grind (arith, nat_tests)
@@ -53,7 +50,7 @@ module _ (measure : Measure) (low : ℤ) (Number : ℤ → Type 0) (limits : (en
       let none = none_pass (λ (x : Near). x.mask == mask_number) before (not_so _ (here_holds Duplicate _ once)) in
       record {
         valid = record { mask = test_holds (codes "mask") Role _ role; number = limits entry number };
-        fresh = λ k d below same. differs _ (one_mask (get_or before k d).mask mask_number same) (none k d below);
+        fresh = λ k d below same. never_both _ (one_mask (get_or before k d).mask mask_number same) (none k d below);
       }
 
   nears_facts : (key : List ℕ) (entry : Members) → nears_fault key measure low names masks entry ≡ None → AreValidNears Number masks (nears_of key measure names entry)
@@ -74,7 +71,7 @@ record IsReadKind (kinds : Items) (masks : List Mask) (before : List Kind) (kind
 
 read_kind : (measure : Measure) (kinds names : Items) (masks : List Mask) → IsGrid measure.grid → (before : List Kind) (value : Data)
     → kind_fault measure kinds names masks before value ≡ None → IsReadKind kinds masks before (kind_of measure names value)
-unfolding kind_fault kind_table_fault kind_of kind_name_fault
+unfolding kind_fault kind_table_fault backgrounds_fault kind_of kind_name_fault
 read_kind measure kinds names masks some before value h =
     let entry = as_members value in
     let (form, a) = or_parts (test_here Form (is_some (as_table value))) _ h in
@@ -101,7 +98,7 @@ parted_follow before (kind ∷ kinds) h =
     (each_passes (are_parted kind) before (here_holds Clash _ (within_clear (decimal (length before)) _ here)), parted_follow (before ++ kind ∷ []) kinds more)
 
 kinds_facts : (measure : Measure) (names : Items) (masks : List Mask) (doc : Members) → IsGrid measure.grid → kinds_there measure names masks doc ≡ None → AreValidKinds masks (kinds_at measure names doc)
-unfolding kinds_there
+unfolding kinds_there kinds_listed
 kinds_facts measure names masks doc some h =
     let values = list (codes "kind") doc in
     let kinds = kinds_at measure names doc in

@@ -17,11 +17,11 @@ use Rattle.rt_tech.specs.Tech.{pair_of as pair_of_mask, IsGrid, IsLayer, IsLengt
 use Rattle.rt_tech.specs.Words.{same_role, same_number, same_pair, has_role, is_single, may_have_text, may_be_lower, are_different, is_ignored}
 use Rattle.rt_keys.specs.Document.{has, word, number, list, as_members, as_number, count, entries_of}
 use Rattle.rt_keys.specs.Faults.{◌or_else◌, unwanted, each}
-use Rattle.rt_tables.specs.Masks.{is_name, role_told, role_of, role_at, pair_at, note_at, is_cut, numbered, name_fault, role_fault, layer_fault, datatype_fault, text_there, text_fault, width_fault, upper_fault, lower_entry_fault, lower_entry, lowers_at, lower_fault, sides_fault, mask_table_fault, mask_fault, width_at, upper_at, lowers_of, mask_of}
+use Rattle.rt_tables.specs.Masks.{is_name, role_told, role_of, role_at, pair_at, note_at, is_cut, numbered, name_fault, role_fault, layer_fault, datatype_fault, text_there, text_fault, width_fault, upper_fault, lower_entry_fault, lower_entry, lowers_at, lowers_fault, lower_fault, sides_fault, measures_fault, mask_table_fault, mask_fault, width_at, upper_at, lowers_of, mask_of}
 use Rattle.rt_keys.specs.Names.{named, is_first}
 use Rattle.rt_keys.specs.Numbers.{Measure, length_fault, length_of, place_here, place_fault, place, pair_fault, pair_of}
 use Rattle.rt_tables.specs.Tables.{masks_of, masks_listed}
-use Rattle.rt_tables.proofs.Clear.{test_holds, here_holds, or_parts, within_clear, Follows, each_follows, all_follow, pairs_follow, called_apart, none_pass, not_so}
+use Rattle.rt_tables.proofs.Clear.{test_holds, here_holds, or_parts, within_clear, Follows, each_follows, all_follow, pairs_follow, called_apart, none_pass, not_so, never_both}
 use Rattle.rt_keys.proofs.Lookups.{count_of_entries}
 use Rattle.rt_tables.proofs.Limits.{within_limits, layer_limits, length_limits, name_limits}
 
@@ -42,9 +42,6 @@ self_role a b e = subst (λ r. same_role a r ≡ true) e (own a)
     own Cut = refl
     own Background = refl
 
-true_not_false : (b : Bool) → b ≡ true → b ≡ false → ⊥
-true_not_false b t f = cc
-
 -- name
 pub record NameFacts (values : Items) (place : ℕ) (name : List ℕ) : Type 0 where
   pub plain : is_name name ≡ true
@@ -64,7 +61,7 @@ name_facts values place entry h =
     let (plain, other) = and_parts (is_name name) (not (bytes_eq name (codes "channel"))) (test_holds (codes "name") Range _ range) in
     record {
       plain = plain;
-      no_channel = λ e. true_not_false _ ((bytes_eq-Decides name (codes "channel")).1 e) (not_so _ other);
+      no_channel = λ e. never_both _ ((bytes_eq-Decides name (codes "channel")).1 e) (not_so _ other);
       first = found_first place (named name values) (test_holds _ _ _ once);
     }
 
@@ -76,7 +73,7 @@ role_facts before entry h k d below single same =
     let (range, clash) = or_parts _ _ more in
     let apart : (is_single (role_of entry) && has_role (role_of entry) before) ≡ false = not_so _ (test_holds (codes "role") Clash _ clash) in
     let none : has_role (role_of entry) before ≡ false = rw single at apart in
-    true_not_false _ (self_role _ _ same) (none_pass (λ mask. same_role mask.role (role_of entry)) before none k d below)
+    never_both _ (self_role _ _ same) (none_pass (λ mask. same_role mask.role (role_of entry)) before none k d below)
 
 -- datatype
 pub record PairFacts (ignored : List (ℤ × ℤ)) (before : List Mask) (pair : ℤ × ℤ) : Type 0 where
@@ -90,7 +87,7 @@ pair_facts ignored before entry h =
     let (once, clash) = or_parts _ _ more in
     let none = none_pass (λ mask. same_pair (mask.layer, mask.datatype) (pair_at entry)) before (not_so _ (test_holds (codes "datatype") Duplicate _ once)) in
     record {
-      fresh = λ k d below same. true_not_false _ (self_pair _ _ same) (none k d below);
+      fresh = λ k d below same. never_both _ (self_pair _ _ same) (none k d below);
       kept = not_so _ (test_holds (codes "datatype") Clash _ clash);
     }
 
@@ -137,7 +134,7 @@ note_there_facts ignored before entry h =
     record {
       limits = pair_limits _ (within_clear (codes "text") _ limits);
       labelled = test_holds (codes "text") Role _ role;
-      fresh = λ k d below same. true_not_false _ (ap (λ o. option_map_or (λ n. same_pair n note) o false) same ∙ self_pair note note refl) (none k d below);
+      fresh = λ k d below same. never_both _ (ap (λ o. option_map_or (λ n. same_pair n note) o false) same ∙ self_pair note note refl) (none k d below);
       kept = not_so _ (test_holds (codes "text") Clash _ clash);
     }
 
@@ -195,7 +192,7 @@ lowers_stand measure values before (item value more) h =
 
 cut_facts : (measure : Measure) (values : Items) (entry : Members) → upper_fault values entry ≡ None → lower_fault values entry ≡ None
     → CutFacts measure values (numbered (codes "upper") values entry) (lowers_at values entry)
-unfolding upper_fault lower_fault
+unfolding upper_fault lower_fault lowers_fault
 cut_facts measure values entry above below =
     let (named, metal) = or_parts _ _ above in
     let (there, a) = or_parts _ _ below in
@@ -241,7 +238,7 @@ pub record IsReadMask (measure : Measure) (values : Items) (ignored : List (ℤ 
 
 read_mask : (measure : Measure) (values : Items) (ignored : List (ℤ × ℤ)) → IsGrid measure.grid → (before : List Mask) (value : Data)
     → mask_fault measure values ignored before value ≡ None → IsReadMask measure values ignored before (mask_of measure values value)
-unfolding mask_fault mask_table_fault layer_fault mask_of
+unfolding mask_fault mask_table_fault measures_fault layer_fault mask_of
 read_mask measure values ignored some before value h =
     let entry = as_members value in
     let (form, a) = or_parts _ _ h in

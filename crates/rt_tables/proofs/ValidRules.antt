@@ -12,8 +12,8 @@ use Rattle.rt_keys.specs.Document.{list, inner, as_members, count}
 use Rattle.rt_keys.specs.Faults.{test_here, wanted, others}
 use Rattle.rt_tables.specs.Masks.{named_fault, numbered}
 use Rattle.rt_keys.specs.Numbers.{Measure, length_fault}
-use Rattle.rt_tables.specs.Rules.{cut_fault, enclose_table_fault, enclose_fault, enclose_of, encloses_of, encloses_fault, channel_table_fault, channel_there, gates_at, has_on, on_at, on_fault, apart_keys, apart_table_fault, apart_fault, apart_of, aparts_of, aparts_fault}
-use Rattle.rt_tables.proofs.Clear.{test_holds, here_holds, or_parts, within_clear, Follows, each_follows, all_follow, pairs_follow, none_pass, not_so}
+use Rattle.rt_tables.specs.Rules.{cut_fault, enclose_table_fault, enclose_end_fault, enclose_fault, enclose_of, encloses_of, encloses_fault, channel_table_fault, channel_there, gates_at, has_on, on_at, on_fault, apart_keys, apart_table_fault, apart_end_fault, apart_fault, apart_of, aparts_of, aparts_fault}
+use Rattle.rt_tables.proofs.Clear.{test_holds, here_holds, or_parts, within_clear, Follows, each_follows, all_follow, pairs_follow, none_pass, not_so, never_both}
 use Rattle.rt_keys.proofs.Naming.{found_below}
 use Rattle.rt_tables.proofs.Limits.{length_limits, reach_limits}
 
@@ -27,7 +27,7 @@ one_enclose other cut mask c m = grind (arith, nat_tests)
 
 read_enclose : (measure : Measure) (names : Items) (masks : List Mask) → IsGrid measure.grid → (before : List Enclose) (value : Data)
     → enclose_fault measure names masks before value ≡ None → IsReadEnclose masks before (enclose_of measure names value)
-unfolding enclose_fault enclose_table_fault enclose_of cut_fault
+unfolding enclose_fault enclose_table_fault enclose_end_fault enclose_of cut_fault
 read_enclose measure names masks some before value h =
     let entry = as_members value in
     let cut_number = numbered (codes "cut") names entry in
@@ -46,11 +46,8 @@ read_enclose measure names masks some before value h =
         mask = here_holds Clash _ clash;
         number = reach_limits measure (codes "number") entry some number;
       };
-      fresh = λ k d below same. absurd (differs _ (one_enclose (get_or before k d) cut_number mask_number same.cuts same.masks) (none k d below));
+      fresh = λ k d below same. absurd (never_both _ (one_enclose (get_or before k d) cut_number mask_number same.cuts same.masks) (none k d below));
     }
-  where
-    differs : (b : Bool) → b ≡ true → b ≡ false → ⊥
-    differs b t f = cc
 
 pub encloses_facts : (measure : Measure) (names : Items) (masks : List Mask) (doc : Members) → IsGrid measure.grid
     → encloses_fault measure names masks doc ≡ None → AreValidEncloses masks (encloses_of measure names doc)
@@ -98,7 +95,7 @@ on_there false n = refl
 
 read_apart : (measure : Measure) (names : Items) (masks : List Mask) → length masks ≡ count names → IsGrid measure.grid → (before : List Apart) (value : Data)
     → apart_fault measure names masks before value ≡ None → IsReadApart masks before (apart_of measure names masks value)
-unfolding apart_fault apart_table_fault apart_of
+unfolding apart_fault apart_table_fault apart_end_fault apart_of
 read_apart measure names masks whole some before value h =
     let entry = as_members value in
     let a_number = numbered (codes "a") names entry in
@@ -116,11 +113,8 @@ read_apart measure names masks whole some before value h =
     let none = none_pass (λ (x : Apart). (x.a == a_number) && same_on x.on on_number && (x.b == b_number)) before (not_so _ (here_holds Duplicate _ once)) in
     record {
       valid = record { first = rw whole (found_below _ names (test_holds (codes "a") Name _ first_named)); second = rw whole (found_below _ names (test_holds (codes "b") Name _ second_named)); on = on_there (has_on names masks entry) (numbered (codes "on") names entry); stands = here_holds Clash _ clash; number = length_limits measure (codes "number") entry some number };
-      fresh = λ k d below same. absurd (differs _ (one_apart (get_or before k d) a_number b_number on_number same.firsts same.lowers same.seconds) (none k d below));
+      fresh = λ k d below same. absurd (never_both _ (one_apart (get_or before k d) a_number b_number on_number same.firsts same.lowers same.seconds) (none k d below));
     }
-  where
-    differs : (b : Bool) → b ≡ true → b ≡ false → ⊥
-    differs b t f = cc
 
 pub aparts_facts : (measure : Measure) (names : Items) (masks : List Mask) (doc : Members) → length masks ≡ count names → IsGrid measure.grid
     → aparts_fault measure names masks doc ≡ None → AreValidAparts masks (aparts_of measure names masks doc)

@@ -64,14 +64,20 @@ kind_name_fault place kinds entry =
     or_else test (codes "name") Range (is_name (word (codes "name") entry))
     or_else test (codes "name") Duplicate (is_first place (named (word (codes "name") entry) kinds))
 
+-- inside and outside, with a later version's key at its place, then the keys that no rule names
+unfoldable pub backgrounds_fault : Measure → Items → List Mask → Members → Option Fault
+backgrounds_fault measure names masks entry =
+    nears_fault (codes "inside") measure (pos 0) names masks entry
+    or_else nears_fault (codes "outside") measure (pos 1) names masks entry
+    or_else unwanted (codes "bulk") entry
+    or_else others kind_keys entry
+
+-- the keys of a kind one after another
 unfoldable pub kind_table_fault : Measure → Items → Items → List Mask → List Kind → Members → Option Fault
 kind_table_fault measure kinds names masks before entry =
     kind_name_fault (length before) kinds entry
     or_else wanted as_bool (codes "device") entry
-    or_else nears_fault (codes "inside") measure (pos 0) names masks entry
-    or_else nears_fault (codes "outside") measure (pos 1) names masks entry
-    or_else unwanted (codes "bulk") entry
-    or_else others kind_keys entry
+    or_else backgrounds_fault measure names masks entry
 
 -- an entry of the list
 unfoldable pub kind_fault : Measure → Items → Items → List Mask → List Kind → Data → Option Fault
@@ -99,12 +105,16 @@ parted_fault before (kind ∷ kinds) =
 abbrev pub kinds_at : Measure → Items → Members → List Kind
 kinds_at measure names doc = entries_of (kind_of measure names) (list (codes "kind") doc)
 
+-- the kinds that these entries describe
+unfoldable pub kinds_listed : Measure → Items → Items → List Mask → Option Fault
+kinds_listed measure values names masks =
+    within (codes "kind") (each (kind_fault measure values names masks) (kind_of measure names) [] values)
+    or_else test (codes "kind") Range (nat_le 1 (count values) && nat_le (count values) KIND_LIMIT)
+    or_else within (codes "kind") (parted_fault [] (entries_of (kind_of measure names) values))
+
 unfoldable pub kinds_there : Measure → Items → List Mask → Members → Option Fault
 kinds_there measure names masks doc =
-    wanted as_array (codes "kind") doc
-    or_else within (codes "kind") (each (kind_fault measure (list (codes "kind") doc) names masks) (kind_of measure names) [] (list (codes "kind") doc))
-    or_else test (codes "kind") Range (nat_le 1 (count (list (codes "kind") doc)) && nat_le (count (list (codes "kind") doc)) KIND_LIMIT)
-    or_else within (codes "kind") (parted_fault [] (kinds_at measure names doc))
+    wanted as_array (codes "kind") doc or_else kinds_listed measure (list (codes "kind") doc) names masks
 
 unfoldable pub kinds_fault : Measure → Items → List Mask → Members → Option Fault
 kinds_fault measure names masks doc = if has_role Active masks then kinds_there measure names masks doc else unwanted (codes "kind") doc

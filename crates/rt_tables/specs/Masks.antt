@@ -128,13 +128,17 @@ lower_entry masks value = unwrap_or (named (as_word value) masks) 0
 abbrev pub lowers_at : Items → Members → List ℕ
 lowers_at masks entry = entries_of (lower_entry masks) (list (codes "lower") entry)
 
+-- so many lower masks, with the upper one: there is one at least, and none stands twice
+unfoldable pub lowers_fault : ℕ → ℕ → List ℕ → Option Fault
+lowers_fault count upper lowers =
+    test (codes "lower") Range (nat_le 1 count) or_else test (codes "lower") Clash (are_different (upper ∷ lowers))
+
 -- lower, of cuts
 unfoldable pub lower_fault : Items → Members → Option Fault
 lower_fault masks entry =
     wanted as_array (codes "lower") entry
     or_else within (codes "lower") (each (λ before. lower_entry_fault masks) (lower_entry masks) [] (list (codes "lower") entry))
-    or_else test (codes "lower") Range (nat_le 1 (count (list (codes "lower") entry)))
-    or_else test (codes "lower") Clash (are_different (numbered (codes "upper") masks entry ∷ lowers_at masks entry))
+    or_else lowers_fault (count (list (codes "lower") entry)) (numbered (codes "upper") masks entry) (lowers_at masks entry)
 
 -- upper and lower
 unfoldable pub sides_fault : Items → Members → Option Fault
@@ -142,7 +146,16 @@ sides_fault masks entry =
     if is_cut entry then (upper_fault masks entry or_else lower_fault masks entry)
     else (unwanted (codes "upper") entry or_else unwanted (codes "lower") entry)
 
--- the keys of a mask one after another, with a later version's at its place, then those that no rule names
+-- what an entry says after its layer pairs, with a later version's key at its place, then the keys that no rule names
+unfoldable pub measures_fault : Measure → Items → Members → Option Fault
+measures_fault measure masks entry =
+    length_fault measure (pos 1) (codes "space") entry
+    or_else unwanted (codes "notch") entry
+    or_else width_fault measure entry
+    or_else sides_fault masks entry
+    or_else others mask_keys entry
+
+-- the keys of a mask one after another
 unfoldable pub mask_table_fault : Measure → Items → List (ℤ × ℤ) → List Mask → Members → Option Fault
 mask_table_fault measure masks ignored before entry =
     name_fault (length before) masks entry
@@ -150,11 +163,7 @@ mask_table_fault measure masks ignored before entry =
     or_else layer_fault entry
     or_else datatype_fault ignored before entry
     or_else text_fault ignored before entry
-    or_else length_fault measure (pos 1) (codes "space") entry
-    or_else unwanted (codes "notch") entry
-    or_else width_fault measure entry
-    or_else sides_fault masks entry
-    or_else others mask_keys entry
+    or_else measures_fault measure masks entry
 
 -- an entry of the list
 unfoldable pub mask_fault : Measure → Items → List (ℤ × ℤ) → List Mask → Data → Option Fault

@@ -32,17 +32,21 @@ unfoldable pub cut_fault : Items → List Mask → Members → Option Fault
 cut_fault names masks entry =
     named_fault (codes "cut") names entry or_else test (codes "cut") Role (is_role_at Cut masks (numbered (codes "cut") names entry))
 
--- the keys of an enclosure one after another, those that no rule names, and the entry itself: a cut with its upper mask
--- or one of its lower masks, once
+-- an entry that says this enclosure, after the keys that it may have: a cut with its upper mask or one of its lower
+-- masks, once
+unfoldable pub enclose_end_fault : List Mask → List Enclose → Enclose → Members → Option Fault
+enclose_end_fault masks before enclose entry =
+    others enclose_keys entry
+    or_else test_here Duplicate (not (has_enclose before enclose.cut enclose.mask))
+    or_else test_here Clash (has_upper masks enclose.cut enclose.mask || has_lower masks enclose.cut enclose.mask)
+
+-- the keys of an enclosure one after another
 unfoldable pub enclose_table_fault : Measure → Items → List Mask → List Enclose → Members → Option Fault
 enclose_table_fault measure names masks before entry =
     cut_fault names masks entry
     or_else named_fault (codes "mask") names entry
     or_else length_fault measure (pos 0) (codes "number") entry
-    or_else others enclose_keys entry
-    or_else test_here Duplicate (not (has_enclose before (numbered (codes "cut") names entry) (numbered (codes "mask") names entry)))
-    or_else test_here Clash (has_upper masks (numbered (codes "cut") names entry) (numbered (codes "mask") names entry)
-    || has_lower masks (numbered (codes "cut") names entry) (numbered (codes "mask") names entry))
+    or_else enclose_end_fault masks before (enclose_at measure names entry) entry
 
 -- an entry of the list
 unfoldable pub enclose_fault : Measure → Items → List Mask → List Enclose → Data → Option Fault
@@ -116,15 +120,21 @@ apart_at measure names masks entry = record {
   number = length_of measure (codes "number") entry;
 }
 
+-- an entry that says this distance, after the keys that it may have: there is one such distance, and it may be
+unfoldable pub apart_end_fault : List Mask → List Apart → Apart → Members → Option Fault
+apart_end_fault masks before apart entry =
+    others apart_keys entry
+    or_else test_here Duplicate (not (has_apart before apart.a apart.on apart.b))
+    or_else test_here Clash (may_be_apart masks apart.a apart.on apart.b)
+
+-- the keys of a distance one after another
 unfoldable pub apart_table_fault : Measure → Items → List Mask → List Apart → Members → Option Fault
 apart_table_fault measure names masks before entry =
     named_fault (codes "a") names entry
     or_else named_fault (codes "b") names entry
     or_else length_fault measure (pos 1) (codes "number") entry
     or_else on_fault names masks entry
-    or_else others apart_keys entry
-    or_else test_here Duplicate (not (has_apart before (numbered (codes "a") names entry) (on_at names masks entry) (numbered (codes "b") names entry)))
-    or_else test_here Clash (may_be_apart masks (numbered (codes "a") names entry) (on_at names masks entry) (numbered (codes "b") names entry))
+    or_else apart_end_fault masks before (apart_at measure names masks entry) entry
 
 -- an entry of the list
 unfoldable pub apart_fault : Measure → Items → List Mask → List Apart → Data → Option Fault

@@ -76,15 +76,20 @@ masks_listed measure ignored values =
 abbrev pub masks_in : Which → Members → List Mask
 masks_in which doc = masks_of (measure_in which doc) (list (codes "mask") doc)
 
--- the keys after the masks, one after another, then those that no rule names
+-- the distances and the kinds, with a later version's key at its place, then the keys that no rule names
+unfoldable pub later_rules_fault : Measure → Items → List Mask → Members → Option Fault
+later_rules_fault measure names masks doc =
+    aparts_fault measure names masks doc
+    or_else kinds_fault measure names masks doc
+    or_else unwanted (codes "resistor") doc
+    or_else others table_keys doc
+
+-- the keys after the masks, one after another
 unfoldable pub rules_fault : Measure → Items → List Mask → Members → Option Fault
 rules_fault measure names masks doc =
     encloses_fault measure names masks doc
     or_else channel_fault measure masks doc
-    or_else aparts_fault measure names masks doc
-    or_else kinds_fault measure names masks doc
-    or_else unwanted (codes "resistor") doc
-    or_else others table_keys doc
+    or_else later_rules_fault measure names masks doc
 
 -- what a document says after its masks
 pub record AreRules (measure : Measure) (names : Items) (masks : List Mask) (doc : Members) (rules : Rules) : Type 0 where
@@ -92,6 +97,16 @@ pub record AreRules (measure : Measure) (names : Items) (masks : List Mask) (doc
   pub gates : rules.gates ≡ gates_of measure masks doc
   pub aparts : rules.aparts ≡ aparts_of measure names masks doc
   pub kinds : rules.kinds ≡ kinds_of measure names masks doc
+
+-- the masks that these entries describe, and the keys after them
+unfoldable pub listed_fault : Measure → List (ℤ × ℤ) → Items → Members → Option Fault
+listed_fault measure ignored values doc =
+    masks_listed measure ignored values or_else rules_fault measure values (masks_of measure values) doc
+
+-- the masks, and the keys after them
+unfoldable pub contents_fault : Measure → List (ℤ × ℤ) → Members → Option Fault
+contents_fault measure ignored doc =
+    wanted as_array (codes "mask") doc or_else listed_fault measure ignored (list (codes "mask") doc) doc
 
 -- the keys of a table one after another
 unfoldable pub tech_fault : Which → Members → Option Fault
@@ -101,9 +116,7 @@ tech_fault which doc =
     or_else units_fault doc
     or_else unlisted_fault doc
     or_else ignore_fault doc
-    or_else wanted as_array (codes "mask") doc
-    or_else masks_listed (measure_in which doc) (ignored_in doc) (list (codes "mask") doc)
-    or_else rules_fault (measure_in which doc) (list (codes "mask") doc) (masks_in which doc) doc
+    or_else contents_fault (measure_in which doc) (ignored_in doc) doc
 
 -- the table that a document is
 unfoldable pub tech_in : Which → Members → Tech

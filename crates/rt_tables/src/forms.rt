@@ -2,9 +2,9 @@ ghost use Rattle.std.specs.Prelude.{◌≡◌, None, Some, IfErr, OnOk, is_some,
 ghost use Rattle.rt_keys.specs.Faults.{Reads};
 ghost use Rattle.rt_tables.specs.Forms.{name_at as name_in, upper_at, differs, same_flag as same_flag_of, same_name as same_name_of, same_on as same_on_of, mask_difference, enclose_difference, apart_difference, near_difference, lower_difference, kind_difference, difference as difference_of, HaveSameForm, IsTablesDiffer, RefusesTables};
 
-use crate::comparing::{Compared, compare_lists};
+use crate::comparing::{Compared, Tables, compare_at};
 use rt_keys::TableError;
-use rt_keys::stop::{Stop, at, bad_table, tested, tested_here};
+use rt_keys::stop::{Stop, bad_table, tested, tested_here};
 use rt_keys::words::same_role;
 use rt_tech::{Apart, Enclose, Kind, Mask, Near, Role, TableCause, Tech};
 use std::alloc::Global;
@@ -38,17 +38,20 @@ fn same_name(ours: Option<&[u8]>, theirs: Option<&[u8]>) -> bool
 }
 
 // Whether the two masks, by their numbers in the two tables, have the same name.
-fn are_alike(source: &Tech, target: &Tech, ours: u32, theirs: u32) -> bool
-    ensures { result ≡ same_name_of (name_in source.now ours) (name_in target.now theirs) }
+fn are_alike(tables: &Tables, ours: u32, theirs: u32) -> bool
+    ensures { result ≡ same_name_of (name_in tables.now.source.now ours) (name_in tables.now.target.now theirs) }
 {
-    same_name(name_at(source, ours), name_at(target, theirs))
+    same_name(name_at(tables.source, ours), name_at(tables.target, theirs))
 }
 
 // Whether the uppers of two cuts have the same name. It is, where no mask is a cut.
-fn have_same_upper(source: &Tech, target: &Tech, ours: &Mask, theirs: &Mask) -> bool
-    ensures { result ≡ same_name_of (upper_at source.now ours.now) (upper_at target.now theirs.now) }
+fn have_same_upper(tables: &Tables, ours: &Mask, theirs: &Mask) -> bool
+    ensures { result ≡ same_name_of (upper_at tables.now.source.now ours.now) (upper_at tables.now.target.now theirs.now) }
 {
-    same_name(upper_of(source, ours), upper_of(target, theirs))
+    same_name(
+        upper_of(tables.source, ours),
+        upper_of(tables.target, theirs),
+    )
 }
 
 // The name of a cut's upper.
@@ -63,16 +66,11 @@ fn upper_of<'a>(tech: &'a Tech, mask: &Mask) -> Option<&'a [u8]>
 }
 
 // Whether the two are both there, with the same name, or both not.
-fn are_alike_where_there(
-    source: &Tech,
-    target: &Tech,
-    ours: Option<u32>,
-    theirs: Option<u32>,
-) -> bool
-    ensures { result ≡ same_on_of (option_map (name_in source.now) ours) (option_map (name_in target.now) theirs) }
+fn are_alike_where_there(tables: &Tables, ours: Option<u32>, theirs: Option<u32>) -> bool
+    ensures { result ≡ same_on_of (option_map (name_in tables.now.source.now) ours) (option_map (name_in tables.now.target.now) theirs) }
 {
     match (ours, theirs) {
-        (Some(ours), Some(theirs)) => are_alike(source, target, ours, theirs),
+        (Some(ours), Some(theirs)) => are_alike(tables, ours, theirs),
         (None, None) => true,
         _ => false,
     }
@@ -85,22 +83,19 @@ fn same(alloc: Global, key: &str, holds: bool) -> Result<(), Stop>
     tested(alloc, key, TableCause::Clash, holds)
 }
 
+// Refuses the key unless the masks that it names in the two tables, by their numbers, have the same name.
+fn same_mask(alloc: Global, key: &str, tables: &Tables, ours: u32, theirs: u32) -> Result<(), Stop>
+    ensures { Reads result (differs key.now (same_name_of (name_in tables.now.source.now ours) (name_in tables.now.target.now theirs))) (λ _. Unit {0}) }
+{
+    same(alloc, key, are_alike(tables, ours, theirs))
+}
+
 impl Compared for u32 {
     ghost difference = { lower_difference };
 
     #[tactic(auto, unfolding(crate::specs::Forms::lower_difference))]
-    fn compare(
-        &self,
-        alloc: Global,
-        other: &u32,
-        source: &Tech,
-        target: &Tech,
-    ) -> Result<(), Stop> {
-        tested_here(
-            alloc,
-            TableCause::Clash,
-            are_alike(source, target, *self, *other),
-        )
+    fn compare(&self, alloc: Global, other: &u32, tables: &Tables) -> Result<(), Stop> {
+        tested_here(alloc, TableCause::Clash, are_alike(tables, *self, *other))
     }
 }
 
@@ -108,13 +103,7 @@ impl Compared for Mask {
     ghost difference = { mask_difference };
 
     #[tactic(auto, unfolding(crate::specs::Forms::mask_difference))]
-    fn compare(
-        &self,
-        alloc: Global,
-        other: &Mask,
-        source: &Tech,
-        target: &Tech,
-    ) -> Result<(), Stop> {
+    fn compare(&self, alloc: Global, other: &Mask, tables: &Tables) -> Result<(), Stop> {
         same(alloc, "name", self.name.as_slice() == other.name.as_slice())?;
         same(alloc, "role", same_role(self.role, other.role))?;
         same(
@@ -122,15 +111,14 @@ impl Compared for Mask {
             "text",
             same_flag(self.note.is_some(), other.note.is_some()),
         )?;
-        same(alloc, "upper", have_same_upper(source, target, self, other))?;
-        let lowers = compare_lists(
+        same(alloc, "upper", have_same_upper(tables, self, other))?;
+        compare_at(
             alloc,
-            source,
-            target,
+            "lower",
+            tables,
             self.lowers.as_slice(),
             other.lowers.as_slice(),
-        );
-        at(alloc, "lower", lowers)
+        )
     }
 }
 
@@ -138,19 +126,9 @@ impl Compared for Enclose {
     ghost difference = { enclose_difference };
 
     #[tactic(auto, unfolding(crate::specs::Forms::enclose_difference))]
-    fn compare(
-        &self,
-        alloc: Global,
-        other: &Enclose,
-        source: &Tech,
-        target: &Tech,
-    ) -> Result<(), Stop> {
-        same(alloc, "cut", are_alike(source, target, self.cut, other.cut))?;
-        same(
-            alloc,
-            "mask",
-            are_alike(source, target, self.mask, other.mask),
-        )
+    fn compare(&self, alloc: Global, other: &Enclose, tables: &Tables) -> Result<(), Stop> {
+        same_mask(alloc, "cut", tables, self.cut, other.cut)?;
+        same_mask(alloc, "mask", tables, self.mask, other.mask)
     }
 }
 
@@ -158,19 +136,13 @@ impl Compared for Apart {
     ghost difference = { apart_difference };
 
     #[tactic(auto, unfolding(crate::specs::Forms::apart_difference))]
-    fn compare(
-        &self,
-        alloc: Global,
-        other: &Apart,
-        source: &Tech,
-        target: &Tech,
-    ) -> Result<(), Stop> {
-        same(alloc, "a", are_alike(source, target, self.a, other.a))?;
-        same(alloc, "b", are_alike(source, target, self.b, other.b))?;
+    fn compare(&self, alloc: Global, other: &Apart, tables: &Tables) -> Result<(), Stop> {
+        same_mask(alloc, "a", tables, self.a, other.a)?;
+        same_mask(alloc, "b", tables, self.b, other.b)?;
         same(
             alloc,
             "on",
-            are_alike_where_there(source, target, self.on, other.on),
+            are_alike_where_there(tables, self.on, other.on),
         )
     }
 }
@@ -179,18 +151,8 @@ impl Compared for Near {
     ghost difference = { near_difference };
 
     #[tactic(auto, unfolding(crate::specs::Forms::near_difference))]
-    fn compare(
-        &self,
-        alloc: Global,
-        other: &Near,
-        source: &Tech,
-        target: &Tech,
-    ) -> Result<(), Stop> {
-        same(
-            alloc,
-            "mask",
-            are_alike(source, target, self.mask, other.mask),
-        )
+    fn compare(&self, alloc: Global, other: &Near, tables: &Tables) -> Result<(), Stop> {
+        same_mask(alloc, "mask", tables, self.mask, other.mask)
     }
 }
 
@@ -198,31 +160,23 @@ impl Compared for Kind {
     ghost difference = { kind_difference };
 
     #[tactic(auto, unfolding(crate::specs::Forms::kind_difference))]
-    fn compare(
-        &self,
-        alloc: Global,
-        other: &Kind,
-        source: &Tech,
-        target: &Tech,
-    ) -> Result<(), Stop> {
+    fn compare(&self, alloc: Global, other: &Kind, tables: &Tables) -> Result<(), Stop> {
         same(alloc, "name", self.name.as_slice() == other.name.as_slice())?;
         same(alloc, "device", same_flag(self.device, other.device))?;
-        let inside = compare_lists(
+        compare_at(
             alloc,
-            source,
-            target,
+            "inside",
+            tables,
             self.inside.as_slice(),
             other.inside.as_slice(),
-        );
-        at(alloc, "inside", inside)?;
-        let outside = compare_lists(
+        )?;
+        compare_at(
             alloc,
-            source,
-            target,
+            "outside",
+            tables,
             self.outside.as_slice(),
             other.outside.as_slice(),
-        );
-        at(alloc, "outside", outside)
+        )
     }
 }
 
@@ -231,43 +185,40 @@ impl Compared for Kind {
 fn compare(alloc: Global, source: &Tech, target: &Tech) -> Result<(), Stop>
     ensures { Reads result (difference_of source.now target.now) (λ _. Unit {0}) }
 {
-    let masks = compare_lists(
+    let tables = Tables { source, target };
+    compare_at(
         alloc,
-        source,
-        target,
+        "mask",
+        &tables,
         source.masks.as_slice(),
         target.masks.as_slice(),
-    );
-    at(alloc, "mask", masks)?;
-    let encloses = compare_lists(
+    )?;
+    compare_at(
         alloc,
-        source,
-        target,
+        "enclose",
+        &tables,
         source.encloses.as_slice(),
         target.encloses.as_slice(),
-    );
-    at(alloc, "enclose", encloses)?;
+    )?;
     same(
         alloc,
         "channel",
         same_flag(source.gates.is_some(), target.gates.is_some()),
     )?;
-    let aparts = compare_lists(
+    compare_at(
         alloc,
-        source,
-        target,
+        "apart",
+        &tables,
         source.aparts.as_slice(),
         target.aparts.as_slice(),
-    );
-    at(alloc, "apart", aparts)?;
-    let kinds = compare_lists(
+    )?;
+    compare_at(
         alloc,
-        source,
-        target,
+        "kind",
+        &tables,
         source.kinds.as_slice(),
         target.kinds.as_slice(),
-    );
-    at(alloc, "kind", kinds)
+    )
 }
 
 // The refusal of two tables that differ.

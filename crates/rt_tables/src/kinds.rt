@@ -1,17 +1,17 @@
-ghost use Rattle.std.specs.Prelude.{◌≡◌, ◌&&◌, ◌||◌, not, ℕ, ℤ, List as ListValue, [], None, codes, length as count_of, ◌<◌, ◌^◌};
+ghost use Rattle.std.specs.Prelude.{◌≡◌, ◌&&◌, ◌||◌, not, ℕ, ℤ, List as ListValue, [], None, true, codes, length as count_of, ◌<◌, ◌^◌};
 ghost use Rattle.std.specs.List.{list_any, list_all};
 ghost use Rattle.toml.specs.View.{view, table_view, items_view, array_view};
 ghost use Rattle.rt_tech.specs.declared.table.Kind.{Kind as KindValue};
-ghost use Rattle.rt_keys.specs.Document.{word as word_at, list as list_at};
+ghost use Rattle.rt_keys.specs.Document.{word as word_at, list as list_at, entries_of};
 ghost use Rattle.rt_keys.specs.Faults.{Reads};
-ghost use Rattle.rt_tables.specs.Masks.{numbered};
+ghost use Rattle.rt_tables.specs.Masks.{numbered, is_name as is_name_of};
 ghost use Rattle.rt_keys.specs.Numbers.{measure_of};
-ghost use Rattle.rt_tables.specs.Kinds.{has_near as has_near_of, background_fault, near_table_fault, near_fault, near_at, near_of, nears_fault, nears_of, kind_name_fault, kind_table_fault, kind_fault, kind_at, kind_of, share_a_mask as share_a_mask_of, are_parted as are_parted_of, parted_fault, kinds_at, kinds_there, kinds_fault, kinds_of};
+ghost use Rattle.rt_tables.specs.Kinds.{has_near as has_near_of, background_fault, near_table_fault, near_fault, near_at, near_of, nears_fault, nears_of, kind_name_fault, backgrounds_fault, kind_table_fault, kind_fault, kind_at, kind_of, share_a_mask as share_a_mask_of, are_parted as are_parted_of, parted_fault, kinds_at, kinds_listed as kinds_listed_fault, kinds_there as kinds_there_fault, kinds_fault, kinds_of};
 
 use crate::context::Masks;
 use crate::masks::{has_role, is_name, mask_named, name_text};
 use crate::rules::is_role_at;
-use rt_base::{List, Text};
+use rt_base::List;
 use rt_keys::entries::{Entry, entries};
 use rt_keys::finding::{find, is_first, names};
 use rt_keys::keys::{entry_table, flag, list, others, unwanted, word};
@@ -103,8 +103,13 @@ struct KindRule<'a> {
 
 // The name of a kind.
 #[tactic(auto, unfolding(crate::specs::Kinds::kind_name_fault))]
-fn kind_name(alloc: Global, kinds: &Names, place: usize, table: &Table) -> Result<Text, Stop>
-    ensures { Reads result (kind_name_fault place (items_view kinds.now.values.now) (table_view table.now)) (λ t. t ≡ word_at (codes "name") (table_view table.now)) }
+fn kind_name<'a>(
+    alloc: Global,
+    kinds: &Names,
+    place: usize,
+    table: &'a Table,
+) -> Result<&'a str, Stop>
+    ensures { Reads result (kind_name_fault place (items_view kinds.now.values.now) (table_view table.now)) (λ s. (s.now ≡ word_at (codes "name") (table_view table.now)) × (is_name_of s.now ≡ true)) }
 {
     let name = word(alloc, table, "name")?;
     tested(alloc, "name", TableCause::Range, is_name(name.as_bytes()))?;
@@ -114,7 +119,23 @@ fn kind_name(alloc: Global, kinds: &Names, place: usize, table: &Table) -> Resul
         TableCause::Duplicate,
         is_first(place, find(kinds, name)),
     )?;
-    name_text(alloc, name)
+    Ok(name)
+}
+
+// The backgrounds of a kind, inside and outside, after which it has no other key.
+#[tactic(auto, unfolding(crate::specs::Kinds::backgrounds_fault))]
+fn backgrounds(
+    alloc: Global,
+    masks: &Masks,
+    table: &Table,
+) -> Result<(List<Near>, List<Near>), Stop>
+    ensures { Reads result (backgrounds_fault (measure_of masks.now.scale.now) (items_view masks.now.names.now.values.now) masks.now.masks.now (table_view table.now)) (λ p. (p.0 ≡ nears_of (codes "inside") (measure_of masks.now.scale.now) (items_view masks.now.names.now.values.now) (table_view table.now)) × (p.1 ≡ nears_of (codes "outside") (measure_of masks.now.scale.now) (items_view masks.now.names.now.values.now) (table_view table.now))) }
+{
+    let inside = nears(alloc, &NearRule { masks, low: 0 }, table, "inside")?;
+    let outside = nears(alloc, &NearRule { masks, low: 1 }, table, "outside")?;
+    unwanted(alloc, table, "bulk")?;
+    others(alloc, table, &KIND_KEYS)?;
+    Ok((inside, outside))
 }
 
 // The kind that an entry's table describes.
@@ -130,10 +151,8 @@ fn kind(
 {
     let name = kind_name(alloc, kinds, before.len(), table)?;
     let device = flag(alloc, table, "device")?;
-    let inside = nears(alloc, &NearRule { masks, low: 0 }, table, "inside")?;
-    let outside = nears(alloc, &NearRule { masks, low: 1 }, table, "outside")?;
-    unwanted(alloc, table, "bulk")?;
-    others(alloc, table, &KIND_KEYS)?;
+    let (inside, outside) = backgrounds(alloc, masks, table)?;
+    let name = name_text(alloc, name)?;
     Ok(Kind {
         name,
         device,
@@ -190,21 +209,27 @@ fn parted(alloc: Global, kinds: &[Kind]) -> Result<(), Stop>
     Ok(())
 }
 
+// The kinds that the entries of their list describe.
+#[tactic(auto, unfolding(crate::specs::Kinds::kinds_listed))]
+fn kinds_listed(alloc: Global, kinds: &Names, masks: &Masks) -> Result<List<Kind>, Stop>
+    ensures { Reads result (kinds_listed_fault (measure_of masks.now.scale.now) (items_view kinds.now.values.now) (items_view masks.now.names.now.values.now) masks.now.masks.now) (λ ks. ks ≡ entries_of (kind_of (measure_of masks.now.scale.now) (items_view masks.now.names.now.values.now)) (items_view kinds.now.values.now)) }
+{
+    let rule = KindRule { kinds, masks };
+    let listed = at(alloc, "kind", entries(alloc, &rule, kinds.values))?;
+    let is_allowed = 1 <= count(kinds.values) && count(kinds.values) <= KIND_LIMIT;
+    tested(alloc, "kind", TableCause::Range, is_allowed)?;
+    at(alloc, "kind", parted(alloc, listed.as_slice()))?;
+    Ok(listed)
+}
+
 // The kinds of a table that has to have them.
 #[tactic(auto, unfolding(crate::specs::Kinds::kinds_there))]
-fn kinds_listed(alloc: Global, masks: &Masks, table: &Table) -> Result<List<Kind>, Stop>
-    ensures { Reads result (kinds_there (measure_of masks.now.scale.now) (items_view masks.now.names.now.values.now) masks.now.masks.now (table_view table.now)) (λ ks. ks ≡ kinds_at (measure_of masks.now.scale.now) (items_view masks.now.names.now.values.now) (table_view table.now)) }
+fn kinds_there(alloc: Global, masks: &Masks, table: &Table) -> Result<List<Kind>, Stop>
+    ensures { Reads result (kinds_there_fault (measure_of masks.now.scale.now) (items_view masks.now.names.now.values.now) masks.now.masks.now (table_view table.now)) (λ ks. ks ≡ kinds_at (measure_of masks.now.scale.now) (items_view masks.now.names.now.values.now) (table_view table.now)) }
 {
     let values = list(alloc, table, "kind")?.as_slice();
-    let kinds = names(alloc, values)?;
-    let rule = KindRule {
-        kinds: &kinds,
-        masks,
-    };
-    let kinds = at(alloc, "kind", entries(alloc, &rule, values))?;
-    let is_allowed = 1 <= count(values) && count(values) <= KIND_LIMIT;
-    tested(alloc, "kind", TableCause::Range, is_allowed)?;
-    at(alloc, "kind", parted(alloc, kinds.as_slice()))?;
+    let names = names(alloc, values)?;
+    let kinds = kinds_listed(alloc, &names, masks)?;
     Ok(kinds)
 }
 
@@ -214,7 +239,7 @@ pub(crate) fn kinds(alloc: Global, masks: &Masks, table: &Table) -> Result<List<
     ensures { Reads result (kinds_fault (measure_of masks.now.scale.now) (items_view masks.now.names.now.values.now) masks.now.masks.now (table_view table.now)) (λ ks. ks ≡ kinds_of (measure_of masks.now.scale.now) (items_view masks.now.names.now.values.now) masks.now.masks.now (table_view table.now)) }
 {
     if has_role(masks.masks, Role::Active) {
-        let kinds = kinds_listed(alloc, masks, table)?;
+        let kinds = kinds_there(alloc, masks, table)?;
         Ok(kinds)
     } else {
         unwanted(alloc, table, "kind")?;

@@ -4,16 +4,12 @@
 mod comparing;
 mod context;
 mod form_laws;
-#[cfg(test)]
-mod form_tests;
 mod forms;
 mod kinds;
 mod laws;
 mod masks;
 mod rules;
 mod tables;
-#[cfg(test)]
-mod tests;
 
 pub use form_laws::tables_of_one_form_agree;
 pub use forms::same_form;

@@ -7,8 +7,8 @@ ghost use Rattle.toml.specs.View.{view, table_view, items_view, array_view};
 ghost use Rattle.rt_keys.specs.Document.{word as word_at, list as list_at, number as number_at, as_members};
 ghost use Rattle.rt_keys.specs.Faults.{Reads};
 ghost use Rattle.rt_keys.specs.Names.{named};
-ghost use Rattle.rt_keys.specs.Numbers.{measure_of, pair_of, number_fault};
-ghost use Rattle.rt_tables.specs.Masks.{is_name as is_name_of, is_name_byte as is_name_byte_of, has_role as has_role_of, is_single as is_single_of, may_have_text as may_have_text_of, may_be_lower as may_be_lower_of, has_pair as has_pair_of, has_note as has_note_of, are_different as are_different_of, is_cut, role_told, role_of, role_at as role_at_of, named_fault, numbered, name_fault, role_fault, layer_fault, datatype_fault, text_there, text_fault, width_fault, upper_fault, lower_entry_fault, lower_entry, lowers_at, lower_fault, sides_fault, mask_table_fault, mask_fault, mask_at, mask_of, note_at, pair_at, width_at, upper_at, lowers_of};
+ghost use Rattle.rt_keys.specs.Numbers.{measure_of, length_of, pair_of, number_fault};
+ghost use Rattle.rt_tables.specs.Masks.{is_name as is_name_of, is_name_byte as is_name_byte_of, has_role as has_role_of, is_single as is_single_of, may_have_text as may_have_text_of, may_be_lower as may_be_lower_of, has_pair as has_pair_of, has_note as has_note_of, are_different as are_different_of, is_cut, role_told, role_of, role_at as role_at_of, named_fault, numbered, name_fault, role_fault, layer_fault, datatype_fault, text_there, text_fault, width_fault, upper_fault, lower_entry_fault, lower_entry, lowers_at, lowers_fault, lower_fault, sides_fault, measures_fault, mask_table_fault, mask_fault, mask_at, mask_of, note_at, pair_at, width_at, upper_at, lowers_of};
 
 use rt_base::{List, Text};
 use rt_keys::entries::{Entry, entries};
@@ -142,8 +142,8 @@ pub(crate) fn name_text(alloc: Global, name: &str) -> Result<Text, Stop>
 
 // The name of an entry.
 #[tactic(auto, unfolding(crate::specs::Masks::name_fault))]
-fn name(alloc: Global, names: &Names, place: usize, table: &Table) -> Result<Text, Stop>
-    ensures { Reads result (name_fault place (items_view names.now.values.now) (table_view table.now)) (λ t. t ≡ word_at (codes "name") (table_view table.now)) }
+fn name<'a>(alloc: Global, names: &Names, place: usize, table: &'a Table) -> Result<&'a str, Stop>
+    ensures { Reads result (name_fault place (items_view names.now.values.now) (table_view table.now)) (λ s. (s.now ≡ word_at (codes "name") (table_view table.now)) × (is_name_of s.now ≡ true)) }
 {
     let name = word(alloc, table, "name")?;
     let is_allowed = is_name(name.as_bytes());
@@ -159,7 +159,7 @@ fn name(alloc: Global, names: &Names, place: usize, table: &Table) -> Result<Tex
         TableCause::Duplicate,
         is_first(place, find(names, name)),
     )?;
-    name_text(alloc, name)
+    Ok(name)
 }
 
 // The role of an entry.
@@ -397,14 +397,17 @@ fn lowers(alloc: Global, names: &Names, table: &Table, upper: u32) -> Result<Lis
 {
     let values = list(alloc, table, "lower")?.as_slice();
     let lowers = at(alloc, "lower", entries(alloc, &LowerRule { names }, values))?;
-    tested(alloc, "lower", TableCause::Range, 1 <= count(values))?;
-    tested(
-        alloc,
-        "lower",
-        TableCause::Clash,
-        are_lowers(upper, lowers.as_slice()),
-    )?;
+    check_lowers(alloc, count(values), upper, lowers.as_slice())?;
     Ok(lowers)
+}
+
+// Refuses a cut without a lower mask, and then one that has a mask twice.
+#[tactic(auto, unfolding(crate::specs::Masks::lowers_fault))]
+fn check_lowers(alloc: Global, count: usize, upper: u32, lowers: &[u32]) -> Result<(), Stop>
+    ensures { Reads result (lowers_fault count upper lowers.now) (λ _. Unit {0}) }
+{
+    tested(alloc, "lower", TableCause::Range, 1 <= count)?;
+    tested(alloc, "lower", TableCause::Clash, are_lowers(upper, lowers))
 }
 
 // Whether the lower masks are different ones, and none is the upper.
@@ -439,6 +442,25 @@ pub(crate) struct MaskRule<'a> {
     pub ignored: &'a [(i16, i16)],
 }
 
+// The space, the width and the sides of an entry, after which it has no other key.
+#[tactic(auto, unfolding(crate::specs::Masks::measures_fault))]
+fn measures(
+    alloc: Global,
+    rule: &MaskRule,
+    table: &Table,
+    role: Role,
+) -> Result<(i64, i64, (u32, List<u32>)), Stop>
+    requires { role ≡ role_of (table_view table.now) }
+    ensures { Reads result (measures_fault (measure_of rule.now.scale.now) (items_view rule.now.names.now.values.now) (table_view table.now)) (λ p. (p.0 ≡ length_of (measure_of rule.now.scale.now) (codes "space") (table_view table.now)) × (p.1 ≡ width_at (measure_of rule.now.scale.now) (table_view table.now)) × (p.2.0 ≡ upper_at (items_view rule.now.names.now.values.now) (table_view table.now)) × (p.2.1 ≡ lowers_of (items_view rule.now.names.now.values.now) (table_view table.now))) }
+{
+    let space = length(alloc, table, "space", rule.scale, 1)?;
+    unwanted(alloc, table, "notch")?;
+    let width = width(alloc, rule.scale, table, role)?;
+    let sides = sides(alloc, rule.names, table, role)?;
+    others(alloc, table, &MASK_KEYS)?;
+    Ok((space, width, sides))
+}
+
 // The mask that an entry's table describes.
 #[tactic(auto, unfolding(crate::specs::Masks::mask_table_fault, crate::specs::Masks::layer_fault))]
 fn mask(alloc: Global, rule: &MaskRule, before: &[Mask], table: &Table) -> Result<Mask, Stop>
@@ -449,11 +471,8 @@ fn mask(alloc: Global, rule: &MaskRule, before: &[Mask], table: &Table) -> Resul
     let layer = layer_number(alloc, table, "layer")?;
     let datatype = datatype(alloc, rule.ignored, before, table, &layer)?;
     let note = note(alloc, rule.ignored, before, table, role)?;
-    let space = length(alloc, table, "space", rule.scale, 1)?;
-    unwanted(alloc, table, "notch")?;
-    let width = width(alloc, rule.scale, table, role)?;
-    let (upper, lowers) = sides(alloc, rule.names, table, role)?;
-    others(alloc, table, &MASK_KEYS)?;
+    let (space, width, (upper, lowers)) = measures(alloc, rule, table, role)?;
+    let name = name_text(alloc, name)?;
     Ok(Mask {
         name,
         role,

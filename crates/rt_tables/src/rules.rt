@@ -5,7 +5,7 @@ ghost use Rattle.rt_keys.specs.Document.{inner as inner_at, list as list_at};
 ghost use Rattle.rt_keys.specs.Faults.{Reads};
 ghost use Rattle.rt_tables.specs.Masks.{has_role as has_role_of, numbered};
 ghost use Rattle.rt_keys.specs.Numbers.{measure_of};
-ghost use Rattle.rt_tables.specs.Rules.{is_role_at as is_role_at_of, is_upper_of as is_upper_of_of, is_lower_of as is_lower_of_of, has_upper as has_upper_of, has_lower as has_lower_of, has_enclose as has_enclose_of, cut_fault, enclose_table_fault, enclose_fault, enclose_at, enclose_of, is_enclosed as is_enclosed_of, are_enclosed as are_enclosed_of, encloses_of, enclose_there, encloses_fault, channel_table_fault, channel_there, channel_fault, gates_at, gates_of, has_on, on_fault, on_at, same_on as same_on_of, has_apart as has_apart_of, are_gate_and_active as are_gate_and_active_of, is_on_another as is_on_another_of, may_be_apart as may_be_apart_of, apart_table_fault, apart_fault, apart_at, apart_of, is_kept_from as is_kept_from_of, is_kept_from_gate as is_kept_from_gate_of, is_kept_apart as is_kept_apart_of, are_kept_apart as are_kept_apart_of, aparts_of, aparts_fault};
+ghost use Rattle.rt_tables.specs.Rules.{is_role_at as is_role_at_of, is_upper_of as is_upper_of_of, is_lower_of as is_lower_of_of, has_upper as has_upper_of, has_lower as has_lower_of, has_enclose as has_enclose_of, cut_fault, enclose_end_fault, enclose_table_fault, enclose_fault, enclose_at, enclose_of, is_enclosed as is_enclosed_of, are_enclosed as are_enclosed_of, encloses_of, enclose_there, encloses_fault, channel_table_fault, channel_there, channel_fault, gates_at, gates_of, has_on, on_fault, on_at, same_on as same_on_of, has_apart as has_apart_of, are_gate_and_active as are_gate_and_active_of, is_on_another as is_on_another_of, may_be_apart as may_be_apart_of, apart_end_fault, apart_table_fault, apart_fault, apart_at, apart_of, is_kept_from as is_kept_from_of, is_kept_from_gate as is_kept_from_gate_of, is_kept_apart as is_kept_apart_of, are_kept_apart as are_kept_apart_of, aparts_of, aparts_fault};
 
 use crate::context::Masks;
 use crate::masks::{contains, has_role, mask_named};
@@ -109,6 +109,30 @@ fn may_enclose(masks: &[Mask], cut: u32, mask: u32) -> bool
     has_upper(masks, cut, mask) || has_lower(masks, cut, mask)
 }
 
+// Refuses an entry that says this enclosure: by a key that it may not have, or as one that may not be.
+#[tactic(auto, unfolding(crate::specs::Rules::enclose_end_fault))]
+fn check_enclose(
+    alloc: Global,
+    masks: &[Mask],
+    before: &[Enclose],
+    enclose: &Enclose,
+    table: &Table,
+) -> Result<(), Stop>
+    ensures { Reads result (enclose_end_fault masks.now before.now enclose.now (table_view table.now)) (λ _. Unit {0}) }
+{
+    others(alloc, table, &ENCLOSE_KEYS)?;
+    tested_here(
+        alloc,
+        TableCause::Duplicate,
+        !has_enclose(before, enclose.cut, enclose.mask),
+    )?;
+    tested_here(
+        alloc,
+        TableCause::Clash,
+        may_enclose(masks, enclose.cut, enclose.mask),
+    )
+}
+
 // The enclosure that an entry's table says.
 #[tactic(auto, unfolding(crate::specs::Rules::enclose_table_fault))]
 fn enclose(alloc: Global, rule: &Masks, before: &[Enclose], table: &Table) -> Result<Enclose, Stop>
@@ -117,14 +141,9 @@ fn enclose(alloc: Global, rule: &Masks, before: &[Enclose], table: &Table) -> Re
     let cut = cut(alloc, rule, table)?;
     let mask = mask_named(alloc, rule.names, table, "mask")?;
     let number = length(alloc, table, "number", rule.scale, 0)?;
-    others(alloc, table, &ENCLOSE_KEYS)?;
-    tested_here(
-        alloc,
-        TableCause::Duplicate,
-        !has_enclose(before, cut, mask),
-    )?;
-    tested_here(alloc, TableCause::Clash, may_enclose(rule.masks, cut, mask))?;
-    Ok(Enclose { cut, mask, number })
+    let enclose = Enclose { cut, mask, number };
+    check_enclose(alloc, rule.masks, before, &enclose, table)?;
+    Ok(enclose)
 }
 
 // How an entry of the enclosures is read.
@@ -309,6 +328,30 @@ fn on(alloc: Global, rule: &Masks, table: &Table, a: u32, b: u32) -> Result<Opti
     }
 }
 
+// Refuses an entry that says this distance: by a key that it may not have, or as one that may not be.
+#[tactic(auto, unfolding(crate::specs::Rules::apart_end_fault))]
+fn check_apart(
+    alloc: Global,
+    masks: &[Mask],
+    before: &[Apart],
+    apart: &Apart,
+    table: &Table,
+) -> Result<(), Stop>
+    ensures { Reads result (apart_end_fault masks.now before.now apart.now (table_view table.now)) (λ _. Unit {0}) }
+{
+    others(alloc, table, &APART_KEYS)?;
+    tested_here(
+        alloc,
+        TableCause::Duplicate,
+        !has_apart(before, apart.a, apart.on, apart.b),
+    )?;
+    tested_here(
+        alloc,
+        TableCause::Clash,
+        may_be_apart(masks, apart.a, apart.on, apart.b),
+    )
+}
+
 // The distance that an entry's table says.
 #[tactic(auto, unfolding(crate::specs::Rules::apart_table_fault))]
 fn apart(alloc: Global, rule: &Masks, before: &[Apart], table: &Table) -> Result<Apart, Stop>
@@ -318,10 +361,9 @@ fn apart(alloc: Global, rule: &Masks, before: &[Apart], table: &Table) -> Result
     let b = mask_named(alloc, rule.names, table, "b")?;
     let number = length(alloc, table, "number", rule.scale, 1)?;
     let on = on(alloc, rule, table, a, b)?;
-    others(alloc, table, &APART_KEYS)?;
-    tested_here(alloc, TableCause::Duplicate, !has_apart(before, a, on, b))?;
-    tested_here(alloc, TableCause::Clash, may_be_apart(rule.masks, a, on, b))?;
-    Ok(Apart { a, on, b, number })
+    let apart = Apart { a, on, b, number };
+    check_apart(alloc, rule.masks, before, &apart, table)?;
+    Ok(apart)
 }
 
 // How an entry of the distances is read.

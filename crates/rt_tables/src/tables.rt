@@ -4,7 +4,9 @@ ghost use Rattle.rt_tech.specs.Tech.{IsGrid};
 ghost use Rattle.rt_keys.specs.Document.{word as word_at, list as list_at, number as number_at};
 ghost use Rattle.rt_keys.specs.Faults.{Reads};
 ghost use Rattle.rt_keys.specs.Numbers.{number_fault, measure_of};
-ghost use Rattle.rt_tables.specs.Tables.{is_units, units_of, units_fault, unlisted_fault, ignored_fault, ignored_of, ignore_fault, ignored_in, come_together as come_together_of, masks_of, masks_listed as masks_listed_fault, rules_fault, measure_in, tech_fault, tech_in, AreRules, IsTechAnswer};
+ghost use Rattle.rt_tables.specs.Kinds.{kinds_of};
+ghost use Rattle.rt_tables.specs.Rules.{aparts_of};
+ghost use Rattle.rt_tables.specs.Tables.{is_units, units_of, units_fault, unlisted_fault, ignored_fault, ignored_of, ignore_fault, ignored_in, come_together as come_together_of, masks_of, masks_listed as masks_listed_fault, later_rules_fault, rules_fault, listed_fault, contents_fault, tech_fault, tech_in, AreRules, IsTechAnswer};
 
 use crate::context::Masks;
 use crate::kinds::kinds;
@@ -150,6 +152,22 @@ fn masks_listed(
     Ok(masks)
 }
 
+// The distances and the kinds of a document, after which it has no other key.
+#[tactic(auto, unfolding(crate::specs::Tables::later_rules_fault))]
+fn later_rules(
+    alloc: Global,
+    masks: &Masks,
+    table: &Table,
+) -> Result<(List<Apart>, List<Kind>), Stop>
+    ensures { Reads result (later_rules_fault (measure_of masks.now.scale.now) (items_view masks.now.names.now.values.now) masks.now.masks.now (table_view table.now)) (λ p. (p.0 ≡ aparts_of (measure_of masks.now.scale.now) (items_view masks.now.names.now.values.now) masks.now.masks.now (table_view table.now)) × (p.1 ≡ kinds_of (measure_of masks.now.scale.now) (items_view masks.now.names.now.values.now) masks.now.masks.now (table_view table.now))) }
+{
+    let aparts = aparts(alloc, masks, table)?;
+    let kinds = kinds(alloc, masks, table)?;
+    unwanted(alloc, table, "resistor")?;
+    others(alloc, table, &TABLE_KEYS)?;
+    Ok((aparts, kinds))
+}
+
 // What a document says after its masks.
 #[tactic(auto, unfolding(crate::specs::Tables::rules_fault))]
 fn rules_after(alloc: Global, masks: &Masks, table: &Table) -> Result<Rules, Stop>
@@ -157,10 +175,7 @@ fn rules_after(alloc: Global, masks: &Masks, table: &Table) -> Result<Rules, Sto
 {
     let encloses = encloses(alloc, masks, table)?;
     let gates = gates(alloc, masks, table)?;
-    let aparts = aparts(alloc, masks, table)?;
-    let kinds = kinds(alloc, masks, table)?;
-    unwanted(alloc, table, "resistor")?;
-    others(alloc, table, &TABLE_KEYS)?;
+    let (aparts, kinds) = later_rules(alloc, masks, table)?;
     Ok(Rules {
         encloses,
         gates,
@@ -188,6 +203,38 @@ fn rules_with(
     rules_after(alloc, &masks, table)
 }
 
+// The masks of a document, by the entries of their list, and what it says after them.
+#[tactic(auto, unfolding(crate::specs::Tables::listed_fault))]
+fn listed(
+    alloc: Global,
+    names: &Names,
+    scale: &Scale,
+    ignored: &[(i16, i16)],
+    table: &Table,
+) -> Result<(List<Mask>, Rules), Stop>
+    ensures { Reads result (listed_fault (measure_of scale.now) ignored.now (items_view names.now.values.now) (table_view table.now)) (λ p. (p.0 ≡ masks_of (measure_of scale.now) (items_view names.now.values.now)) × AreRules (measure_of scale.now) (items_view names.now.values.now) (masks_of (measure_of scale.now) (items_view names.now.values.now)) (table_view table.now) p.1) }
+{
+    let masks = masks_listed(alloc, names, scale, ignored)?;
+    let rules = rules_with(alloc, names, masks.as_slice(), scale, table)?;
+    Ok((masks, rules))
+}
+
+// The masks of a document, and what it says after them.
+#[tactic(auto, unfolding(crate::specs::Tables::contents_fault))]
+fn contents(
+    alloc: Global,
+    scale: &Scale,
+    ignored: &[(i16, i16)],
+    table: &Table,
+) -> Result<(List<Mask>, Rules), Stop>
+    ensures { Reads result (contents_fault (measure_of scale.now) ignored.now (table_view table.now)) (λ p. (p.0 ≡ masks_of (measure_of scale.now) (list_at (codes "mask") (table_view table.now))) × AreRules (measure_of scale.now) (list_at (codes "mask") (table_view table.now)) (masks_of (measure_of scale.now) (list_at (codes "mask") (table_view table.now))) (table_view table.now) p.1) }
+{
+    let values = list(alloc, table, "mask")?.as_slice();
+    let names = names(alloc, values)?;
+    let contents = listed(alloc, &names, scale, ignored, table)?;
+    Ok(contents)
+}
+
 // The table that a document is.
 #[tactic(auto, unfolding(crate::specs::Tables::tech_fault, crate::specs::Tables::tech_in))]
 fn tech(alloc: Global, table: &Table, which: Which) -> Result<Tech, Stop>
@@ -197,12 +244,9 @@ fn tech(alloc: Global, table: &Table, which: Which) -> Result<Tech, Stop>
     let grid = grid(alloc, table)?;
     let units = units(alloc, table)?;
     let drop_unlisted = drop_unlisted(alloc, table)?;
-    let ignored = ignored(alloc, table)?;
-    let values = list(alloc, table, "mask")?.as_slice();
-    let names = names(alloc, values)?;
     let scale = Scale { which, grid };
-    let masks = masks_listed(alloc, &names, &scale, ignored.as_slice())?;
-    let rules = rules_with(alloc, &names, masks.as_slice(), &scale, table)?;
+    let ignored = ignored(alloc, table)?;
+    let (masks, rules) = contents(alloc, &scale, ignored.as_slice(), table)?;
     Ok(Tech {
         grid,
         units,

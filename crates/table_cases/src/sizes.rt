@@ -1,12 +1,17 @@
-use crate::{read_sizes, wishes};
-use rt_base::{List, Text};
+//! The first fault of a sizes file, what one without a fault says, and the sizes that it gives to devices.
+
+use crate::forms::TABLE;
+use crate::texts::edited;
+use rt_base::List;
 use rt_keys::TableError;
-use rt_tech::{Kind, Mirror, Sizes, TableCause, Tech, Wish};
+use rt_sizes::{read_sizes, wishes};
+use rt_tables::read_tech;
+use rt_tech::{Mirror, Sizes, TableCause, Tech, Which, Wish};
 use std::alloc::{AllocError, Global};
 use std::test::Fail;
 
 // A sizes file, part by part.
-const SIZES: [&str; 7] = [
+static SIZES: [&str; 7] = [
     "version = 1",
     "cell = \"TOP\"",
     "mirror = \"axis\"",
@@ -17,7 +22,7 @@ const SIZES: [&str; 7] = [
 ];
 
 // The part that is changed, what it says then, the key at fault and what is wrong there. An empty key: no fault.
-const SIZES_CASES: [(usize, &str, &str, TableCause); 73] = [
+static SIZES_CASES: [(usize, &str, &str, TableCause); 73] = [
     (0, "version = 1", "", TableCause::Missing),
     (0, "", "version", TableCause::Missing),
     (0, "version = \"1\"", "version", TableCause::Form),
@@ -258,112 +263,95 @@ const SIZES_CASES: [(usize, &str, &str, TableCause); 73] = [
     (4, "zoo = 1\npivots = 0", "pivots", TableCause::Range),
 ];
 
-// The text of the parts, with the one at this place changed.
-fn edited(alloc: Global, parts: &[&str], at: usize, part: &str) -> Result<String, AllocError> {
-    let mut text = String::new(alloc);
-    for (i, old) in parts.iter().enumerate() {
-        text.push_str(if i == at { part } else { *old })?;
-        text.push_str("\n")?;
-    }
-    Ok(text)
-}
-
-// A kind of actives, of which a sizes file sees the name and whether it may have channels.
-fn kind(alloc: Global, name: &str, device: bool) -> Option<Kind> {
-    let bytes = Vec::from_slice(alloc, name.as_bytes()).ok()?;
-    Some(Kind {
-        name: Text::of(List::of(bytes))?,
-        device,
-        inside: List::new(alloc),
-        outside: List::new(alloc),
-    })
-}
-
-// A target table, of which a sizes file sees the grid and the kinds.
+// The target table: its grid is 5, and of its kinds `nmos` is one of devices and `ptap` isn't.
 fn target(alloc: Global) -> Option<Tech> {
-    let mut kinds = List::new(alloc);
-    kinds.push(kind(alloc, "nmos", true)?).ok()?;
-    kinds.push(kind(alloc, "ptap", false)?).ok()?;
-    Some(Tech {
-        grid: 5,
-        units: [0; 16],
-        masks: List::new(alloc),
-        encloses: List::new(alloc),
-        gates: None,
-        aparts: List::new(alloc),
-        kinds,
-        ignored: List::new(alloc),
-        drop_unlisted: false,
-    })
+    let text = edited(alloc, &TABLE, 0, TABLE[0]).ok()?;
+    read_tech(alloc, text.as_bytes(), Which::Target).ok()
+}
+
+// What the text says as a sizes file for this target, whose grid is one.
+fn read(alloc: Global, target: &Tech, bytes: &[u8]) -> Option<Result<Sizes, TableError>> {
+    if 1 <= target.grid && target.grid <= 100 {
+        Some(read_sizes(alloc, bytes, target))
+    } else {
+        None
+    }
 }
 
 // Whether sizes were read as a case says: with this key and this cause, or without a fault where the key is empty.
-fn is_as_said(read: &Result<Sizes, TableError>, key: &str, cause: TableCause) -> bool {
+fn is_as_said(read: &Option<Result<Sizes, TableError>>, key: &str, cause: TableCause) -> bool {
     match read {
-        Ok(_) => key.is_empty(),
-        Err(
-            TableError::BadSizes {
-                key: found,
-                cause: why,
-            },
+        Some(Ok(_)) => key.is_empty(),
+        Some(
+            Err(
+                TableError::BadSizes {
+                    key: found,
+                    cause: why,
+                },
+            ),
         ) => !key.is_empty() && found.as_slice() == key.as_bytes() && *why == cause,
-        Err(_) => false,
+        _ => false,
     }
 }
 
-// Whether the text, as sizes for this target, is read as a case says.
-fn reads_as_said(alloc: Global, target: &Tech, text: &str, key: &str, cause: TableCause) -> bool {
-    if target.grid < 1 || target.grid > 100 {
-        return false;
-    }
-    is_as_said(&read_sizes(alloc, text.as_bytes(), target), key, cause)
-}
-
-// Whether a sizes file with a changed part is read as a case says.
-fn is_read(alloc: Global, case: &(usize, &str, &str, TableCause)) -> Result<bool, AllocError> {
+// Whether the sizes file with a changed part is read as a case says.
+fn is_read(
+    alloc: Global,
+    target: &Tech,
+    case: &(usize, &str, &str, TableCause),
+) -> Result<bool, AllocError> {
     let text = edited(alloc, &SIZES, case.0, case.1)?;
-    match target(alloc) {
-        Some(target) => Ok(reads_as_said(alloc, &target, text.as_str(), case.2, case.3)),
-        None => Ok(false),
+    let read = read(alloc, target, text.as_bytes());
+    Ok(is_as_said(&read, case.2, case.3))
+}
+
+// The place of the first case that isn't read as it says.
+fn first_wrong(alloc: Global, target: &Tech) -> Result<Option<usize>, AllocError> {
+    for (i, case) in SIZES_CASES.iter().enumerate() {
+        if !is_read(alloc, target, case)? {
+            return Ok(Some(i));
+        }
     }
+    Ok(None)
 }
 
 #[test]
 fn names_the_first_fault_of_sizes(rt: HostRuntime) -> Result<(), Fail> {
     let alloc = rt.alloc();
-    for case in &SIZES_CASES {
-        let holds = is_read(alloc, case)?;
-        assert!(rt; holds, "{}: {}", case.0, case.1);
-    }
+    let target = target(alloc).ok_or("no table")?;
+    let wrong = first_wrong(alloc, &target)?;
+    assert!(rt; wrong.is_none(), "case {wrong:?}");
     Ok(())
 }
 
 // A sizes file with sizes for a kind and for one device.
-const ASKED: &str =
+static ASKED: &str =
     "version = 1\ncell = \"TOP\"\nmirror = \"none\"\nkind = [{ name = \"nmos\", length = 10, width = 15 }]\ndevice = [{ index = 1, length = 20, width = 25 }]";
 
 // The devices' kinds, the key at fault and what is wrong there. An empty key: the first two devices have sizes.
-const ASKS: [(&[u32], &str, TableCause); 4] = [
+static ASKS: [(&[u32], &str, TableCause); 4] = [
     (&[0, 0], "", TableCause::Missing),
     (&[0, 1], "", TableCause::Missing),
     (&[0], "device.0.index", TableCause::Range),
     (&[0, 7, 1, 1], "device.2", TableCause::Missing),
 ];
 
-const OWN: Wish = Wish {
-    length: 4,
-    width: 5,
-};
+// The length and the width of each of the two devices, in steps of 5.
+static GIVEN: [(i64, i64); 2] = [(2, 3), (4, 5)];
 
-const SHARED: Wish = Wish {
-    length: 2,
-    width: 3,
-};
+// Whether the sizes are these lengths and widths.
+fn are_wishes(wishes: &[Wish], rows: &[(i64, i64)]) -> bool {
+    wishes.len() == rows.len()
+        && wishes
+            .iter()
+            .zip(rows)
+            .all(|(wish, row)| wish.length == row.0 && wish.width == row.1)
+}
 
 // Whether the devices are given sizes as a case says.
 fn gives_as_said(given: &Result<List<Wish>, TableError>, key: &str, cause: TableCause) -> bool {
     match given {
-        Ok(wishes) => key.is_empty() && wishes.as_slice() == [SHARED, OWN].as_slice(),
+        Ok(wishes) => key.is_empty() && are_wishes(wishes.as_slice(), &GIVEN),
         Err(
             TableError::BadSizes {
                 key: found,
@@ -374,41 +362,53 @@ fn gives_as_said(given: &Result<List<Wish>, TableError>, key: &str, cause: Table
     }
 }
 
-// The sizes that are asked for, in steps.
-fn asked(alloc: Global) -> Option<Sizes> {
+// What a sizes file says, where it has no fault.
+fn said(alloc: Global, bytes: &[u8]) -> Option<Sizes> {
     let target = target(alloc)?;
-    if target.grid < 1 || target.grid > 100 {
-        return None;
-    }
-    read_sizes(alloc, ASKED.as_bytes(), &target).ok()
+    read(alloc, &target, bytes)?.ok()
 }
 
 #[test]
 fn gives_devices_their_sizes(rt: HostRuntime) -> Result<(), Fail> {
     let alloc = rt.alloc();
-    let sizes = asked(alloc).ok_or("not read")?;
-    assert!(rt; sizes.cell.as_slice() == b"TOP".as_slice());
-    assert!(rt; sizes.mirror == Mirror::None);
-    assert!(rt; sizes.pivots == 20_000);
-    for &(kinds, key, cause) in &ASKS {
-        assert!(rt;
-            gives_as_said(&wishes(alloc, &sizes, kinds), key, cause),
-            "{kinds:?}"
-        );
+    let sizes = said(alloc, ASKED.as_bytes()).ok_or("not read")?;
+    for case in &ASKS {
+        let given = wishes(alloc, &sizes, case.0);
+        assert!(rt; gives_as_said(&given, case.1, case.2), "{:?}", case.0);
     }
     Ok(())
 }
 
-// What isn't TOML.
-const NOT_TOML: [&[u8]; 3] = [b"\xff", b"version = ", b"a = 1\na = 2"];
+// Whether the entries are these: numbers, lengths and widths.
+fn are_entries(entries: &[(u32, Wish)], said: &[(u32, i64, i64)]) -> bool {
+    entries.len() == said.len()
+        && entries.iter().zip(said).all(|(e, s)| e.0 == s.0
+            && e.1.length == s.1
+            && e.1.width == s.2)
+}
 
 #[test]
-fn refuses_what_is_not_toml(rt: HostRuntime) -> Result<(), Fail> {
+fn keeps_what_a_sizes_file_says(rt: HostRuntime) -> Result<(), Fail> {
+    let alloc = rt.alloc();
+    let sizes = said(alloc, ASKED.as_bytes()).ok_or("not read")?;
+    assert!(rt; sizes.cell.as_slice() == b"TOP".as_slice());
+    assert!(rt; matches!(sizes.mirror, Mirror::None));
+    assert!(rt; sizes.pivots == 20_000);
+    assert!(rt; are_entries(sizes.kinds.as_slice(), &[(0, 2, 3)]));
+    assert!(rt; are_entries(sizes.devices.as_slice(), &[(1, 4, 5)]));
+    Ok(())
+}
+
+// What isn't TOML.
+static NOT_TOML: [&[u8]; 3] = [b"\xff", b"version = ", b"a = 1\na = 2"];
+
+#[test]
+fn refuses_sizes_that_are_not_toml(rt: HostRuntime) -> Result<(), Fail> {
     let alloc = rt.alloc();
     let target = target(alloc).ok_or("no table")?;
-    assert!(rt; 1 <= target.grid && target.grid <= 100);
-    for bytes in NOT_TOML {
-        assert!(rt; matches!(read_sizes(alloc, bytes, &target), Err(TableError::BadToml)));
+    for bytes in &NOT_TOML {
+        let read = read(alloc, &target, bytes);
+        assert!(rt; matches!(read, Some(Err(TableError::BadToml))));
     }
     Ok(())
 }

@@ -1,11 +1,14 @@
-use crate::read_tech;
+//! The first fault of a rule table: the key that is named and its cause, and tables without a fault.
+
+use crate::texts::edited;
 use rt_keys::TableError;
+use rt_tables::read_tech;
 use rt_tech::{TableCause, Tech, Which};
 use std::alloc::{AllocError, Global};
 use std::test::Fail;
 
 // A table, line by line. A case is this text with one line changed.
-const TABLE: [&str; 66] = [
+static TABLE: [&str; 66] = [
     "version = 1",
     "grid = 1",
     "units = \"41100000000000004110000000000000\"",
@@ -75,7 +78,7 @@ const TABLE: [&str; 66] = [
 ];
 
 // The line that is changed, what it says then, the key at fault and what is wrong there. An empty key: no fault.
-const CASES: [(usize, &str, &str, TableCause); 151] = [
+static CASES: [(usize, &str, &str, TableCause); 151] = [
     (0, "version = 1 # as before", "", TableCause::Missing),
     (0, "", "version", TableCause::Missing),
     (0, "version = 1.0", "version", TableCause::Form),
@@ -469,16 +472,6 @@ const CASES: [(usize, &str, &str, TableCause); 151] = [
     ),
 ];
 
-// The lines with one of them changed, as a text.
-fn edited(alloc: Global, lines: &[&str], at: usize, line: &str) -> Result<String, AllocError> {
-    let mut text = String::new(alloc);
-    for (i, old) in lines.iter().enumerate() {
-        text.push_str(if i == at { line } else { *old })?;
-        text.push_str("\n")?;
-    }
-    Ok(text)
-}
-
 // Whether a table was read as a case says: with this key and this cause, or without a fault where the key is empty.
 fn is_as_said(read: &Result<Tech, TableError>, key: &str, cause: TableCause) -> bool {
     match read {
@@ -493,22 +486,28 @@ fn is_as_said(read: &Result<Tech, TableError>, key: &str, cause: TableCause) -> 
     }
 }
 
+// Whether the table with a changed line is read as a case says.
+fn is_read(alloc: Global, case: &(usize, &str, &str, TableCause)) -> Result<bool, AllocError> {
+    let text = edited(alloc, &TABLE, case.0, case.1)?;
+    let read = read_tech(alloc, text.as_bytes(), Which::Source);
+    Ok(is_as_said(&read, case.2, case.3))
+}
+
 #[test]
 fn names_the_first_fault(rt: HostRuntime) -> Result<(), Fail> {
     let alloc = rt.alloc();
-    for &(at, line, key, cause) in &CASES {
-        let text = edited(alloc, &TABLE, at, line)?;
-        let read = read_tech(alloc, text.as_bytes(), Which::Source);
-        assert!(rt; is_as_said(&read, key, cause), "{at}: {line}");
+    for case in &CASES {
+        let holds = is_read(alloc, case)?;
+        assert!(rt; holds, "{}: {}", case.0, case.1);
     }
     Ok(())
 }
 
 // The first lines of a table of metals.
-const HEAD: &str = "version = 1\ngrid = 5\nunits = \"3E4189374BC6A7F03944b82fa09b5a54\"\n";
+static HEAD: &str = "version = 1\ngrid = 5\nunits = \"3E4189374BC6A7F03944b82fa09b5a54\"\n";
 
 // What follows them, the key at fault and what is wrong there. An empty key: no fault.
-const ENDS: [(&str, &str, TableCause); 21] = [
+static ENDS: [(&str, &str, TableCause); 21] = [
     ("", "mask", TableCause::Missing),
     ("mask = 1", "mask", TableCause::Form),
     ("mask = []", "mask", TableCause::Range),
@@ -600,46 +599,35 @@ const ENDS: [(&str, &str, TableCause); 21] = [
     ),
 ];
 
+// Whether the target table with these lines at its end is read as a case says.
+fn ends_as_said(alloc: Global, case: &(&str, &str, TableCause)) -> Result<bool, AllocError> {
+    let mut text = String::new(alloc);
+    text.push_str(HEAD)?;
+    text.push_str(case.0)?;
+    let read = read_tech(alloc, text.as_bytes(), Which::Target);
+    Ok(is_as_said(&read, case.1, case.2))
+}
+
 #[test]
 fn names_the_first_fault_of_targets(rt: HostRuntime) -> Result<(), Fail> {
     let alloc = rt.alloc();
-    for &(end, key, cause) in &ENDS {
-        let mut text = String::new(alloc);
-        text.push_str(HEAD)?;
-        text.push_str(end)?;
-        let read = read_tech(alloc, text.as_bytes(), Which::Target);
-        assert!(rt; is_as_said(&read, key, cause), "{end}");
+    for case in &ENDS {
+        let holds = ends_as_said(alloc, case)?;
+        assert!(rt; holds, "{}", case.0);
     }
     Ok(())
 }
 
-// Whether the bytes aren't TOML.
-fn is_not_toml(read: &Result<Tech, TableError>) -> bool {
-    matches!(read, Err(TableError::BadToml))
-}
-
-// What a table of one metal is read as: its grid, width, space and the tenth byte of its units. Zeros for others.
-fn read_as(read: &Result<Tech, TableError>) -> (i64, i64, i64, u8) {
-    match read {
-        Ok(tech) => match tech.masks.as_slice().first() {
-            Some(mask) => (tech.grid, mask.width, mask.space, tech.units[9]),
-            None => (0, 0, 0, 0),
-        },
-        Err(_) => (0, 0, 0, 0),
-    }
-}
+// What isn't TOML.
+static NOT_TOML: [&[u8]; 2] = [b"\xff", b"version = "];
 
 #[test]
-fn keeps_what_it_reads(rt: HostRuntime) -> Result<(), Fail> {
+fn refuses_tables_that_are_not_toml(rt: HostRuntime) {
     let alloc = rt.alloc();
-    assert!(rt; is_not_toml(&read_tech(alloc, b"\xff", Which::Source)));
-    assert!(rt; is_not_toml(&read_tech(alloc, b"version = ", Which::Target)));
-    let mut text = String::new(alloc);
-    text.push_str(HEAD)?;
-    text.push_str(ENDS[4].0)?;
-    let source = read_tech(alloc, text.as_bytes(), Which::Source);
-    assert!(rt; read_as(&source) == (5, 30, 20, 0x44));
-    let target = read_tech(alloc, text.as_bytes(), Which::Target);
-    assert!(rt; read_as(&target) == (5, 6, 4, 0x44));
-    Ok(())
+    for bytes in &NOT_TOML {
+        let source = read_tech(alloc, bytes, Which::Source);
+        assert!(rt; matches!(source, Err(TableError::BadToml)));
+        let target = read_tech(alloc, bytes, Which::Target);
+        assert!(rt; matches!(target, Err(TableError::BadToml)));
+    }
 }

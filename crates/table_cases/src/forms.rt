@@ -1,11 +1,14 @@
-use crate::{read_tech, same_form};
+//! The first key at which two tables differ in form.
+
+use crate::texts::edited;
 use rt_keys::TableError;
+use rt_tables::{read_tech, same_form};
 use rt_tech::{Tech, Which};
 use std::alloc::{AllocError, Global};
 use std::test::Fail;
 
-// A table, part by part. A case is this text with one part changed.
-const TABLE: [&str; 13] = [
+/// A table, part by part. A case is this text with one part changed.
+pub(crate) static TABLE: [&str; 13] = [
     "version = 1\ngrid = 5\nunits = \"41100000000000004110000000000000\"",
     "[[mask]]\nname = \"active\"\nrole = \"active\"\nlayer = 2\ndatatype = 0\nwidth = 10\nspace = 10",
     "[[mask]]\nname = \"gate\"\nrole = \"gate\"\nlayer = 4\ndatatype = 0\nwidth = 10\nspace = 10",
@@ -22,7 +25,7 @@ const TABLE: [&str; 13] = [
 ];
 
 // The part that is changed, what it says then, and the first key at which the two differ. An empty key: none.
-const FORMS: [(usize, &str, &str); 29] = [
+static FORMS: [(usize, &str, &str); 29] = [
     (
         0,
         "version = 1\ngrid = 5\nunits = \"41100000000000004110000000000000\"",
@@ -154,16 +157,6 @@ const FORMS: [(usize, &str, &str); 29] = [
     ),
 ];
 
-// The text of the parts, with the one at this place changed.
-fn edited(alloc: Global, parts: &[&str], at: usize, part: &str) -> Result<String, AllocError> {
-    let mut text = String::new(alloc);
-    for (i, old) in parts.iter().enumerate() {
-        text.push_str(if i == at { part } else { *old })?;
-        text.push_str("\n")?;
-    }
-    Ok(text)
-}
-
 // Whether the comparison answers as a case says: with this key, or that the form is the same where the key is empty.
 fn compares_as_said(alloc: Global, source: &Tech, target: &Tech, key: &str) -> bool {
     match same_form(alloc, source, target) {
@@ -175,29 +168,37 @@ fn compares_as_said(alloc: Global, source: &Tech, target: &Tech, key: &str) -> b
     }
 }
 
+// Whether two tables, which are read, are compared as a case says, in both orders.
+fn are_compared(
+    alloc: Global,
+    whole: &Result<Tech, TableError>,
+    changed: &Result<Tech, TableError>,
+    key: &str,
+) -> bool {
+    match (whole, changed) {
+        (Ok(whole), Ok(changed)) => {
+            compares_as_said(alloc, whole, changed, key)
+                && compares_as_said(alloc, changed, whole, key)
+        }
+        _ => false,
+    }
+}
+
 // A table of the first parts and a changed one, compared in both orders.
-fn is_compared(alloc: Global, at: usize, part: &str, key: &str) -> Result<bool, AllocError> {
-    let (whole, changed) = (
-        edited(alloc, &TABLE, 0, TABLE[0])?,
-        edited(alloc, &TABLE, at, part)?,
-    );
+fn is_compared(alloc: Global, case: &(usize, &str, &str)) -> Result<bool, AllocError> {
+    let whole = edited(alloc, &TABLE, 0, TABLE[0])?;
+    let changed = edited(alloc, &TABLE, case.0, case.1)?;
     let source = read_tech(alloc, whole.as_bytes(), Which::Source);
     let target = read_tech(alloc, changed.as_bytes(), Which::Source);
-    match (source, target) {
-        (Ok(source), Ok(target)) => Ok(
-            compares_as_said(alloc, &source, &target, key)
-                && compares_as_said(alloc, &target, &source, key),
-        ),
-        _ => Ok(false),
-    }
+    Ok(are_compared(alloc, &source, &target, case.2))
 }
 
 #[test]
 fn names_the_first_difference(rt: HostRuntime) -> Result<(), Fail> {
     let alloc = rt.alloc();
-    for &(at, part, key) in &FORMS {
-        let holds = is_compared(alloc, at, part, key)?;
-        assert!(rt; holds, "{at}: {part}");
+    for case in &FORMS {
+        let holds = is_compared(alloc, case)?;
+        assert!(rt; holds, "{}: {}", case.0, case.1);
     }
     Ok(())
 }
