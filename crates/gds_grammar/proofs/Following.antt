@@ -1,5 +1,5 @@
 -- From one place to another the records that are read stand, and the grammar allows them.
-use Rattle.std.proofs.Common.{◌≡◌, ◌≢◌, ℕ, zero, ◌+◌, ◌<◌, ◌≤◌, Bool, true, false, cond, eqb, List, [], ◌∷◌, ◌++◌, length, map, drop, Contains, Option, Some, None, refl, sym, ap, ◌∙◌, subst, append_assoc, append-nil, length-append, arith}
+use Rattle.std.proofs.Common.{◌≡◌, ◌≢◌, ℕ, ◌+◌, ◌<◌, Bool, true, false, cond, eqb, List, [], ◌∷◌, ◌++◌, length, map, drop, Contains, Option, Some, None, refl, sym, ap, ◌∙◌, subst, append_assoc, append-nil, length-append, arith}
 use Rattle.std.specs.Prelude.{AllPairs}
 use Rattle.std.specs.List.{cons_option, fold}
 use Rattle.std.proofs.lemmas.List.{drop_at}
@@ -15,6 +15,7 @@ use Rattle.gds_records.proofs.Deciding.{length_spelled}
 use Rattle.gds_grammar.specs.Conditions.{trim, kind_after, name_in, names_in, InContext, Placed, Counted, Readable}
 use Rattle.gds_grammar.specs.Tests.{is_repeated}
 use Rattle.gds_grammar.specs.Reading.{Cursor, behind}
+use Rattle.gds_grammar.proofs.Appended.{placed_append, context_append}
 use Rattle.gds_grammar.proofs.Predicting.{AreBytes, Follows}
 use Rattle.gds_grammar.proofs.Decided.{repeated_false}
 
@@ -23,16 +24,6 @@ abbrev pub codes : List Item → List ℕ
 codes items = map (λ i. i.code) items
 
 -- ---- records one after the other
-
-Placed_both : (n : ℕ) (items more : List Item) → Placed n items → Placed (n + length (flat items)) more → Placed n (items ++ more)
-Placed_both n [] more here there = subst (λ (m : ℕ). Placed m more) (let e : n + zero ≡ n = omega arith in e) there
-Placed_both n (i ∷ items) more here there =
-    let next : n + length (flat (i ∷ items)) ≡ (n + length (spelled i)) + length (flat items) = omega (arith, length-append (spelled i) (flat items)) in
-    (here.0, Placed_both (n + length (spelled i)) items more here.1 (subst (λ (m : ℕ). Placed m more) next there))
-
-InContext_both : (kind : Option ℕ) (items more : List Item) → InContext kind items → InContext (fold kind_after kind items) more → InContext kind (items ++ more)
-InContext_both kind [] more here there = there
-InContext_both kind (i ∷ items) more here there = (here.0, here.1, here.2, InContext_both (kind_after kind i) items more here.3 there)
 
 pub follows_here : (c : Cursor) → Follows c [] c
 follows_here c = record {
@@ -52,8 +43,8 @@ follows_then c d e items more first second =
     record {
       spells = first.spells ∙ ap (λ (l : List ℕ). flat items ++ l) second.spells ∙ sym (append_assoc (flat items) (flat more) e.rest) ∙ ap (λ (l : List ℕ). l ++ e.rest) (sym whole);
       at = omega (arith, first.at, second.at, size);
-      placed = Placed_both c.at items more first.placed (subst (λ (n : ℕ). Placed n more) first.at second.placed);
-      each = InContext_both c.kind items more first.each (subst (λ (k : Option ℕ). InContext k more) first.kind second.each);
+      placed = placed_append c.at items more first.placed (subst (λ (n : ℕ). Placed n more) first.at second.placed);
+      each = context_append c.kind items more first.each (subst (λ (k : Option ℕ). InContext k more) first.kind second.each);
       kind = second.kind ∙ ap (λ (k : Option ℕ). fold kind_after k more) first.kind ∙ sym (fold-append kind_after c.kind items more);
       names = second.names ∙ ap (λ (l : List (List ℕ)). l ++ names_in more) first.names ∙ append_assoc c.names (names_in items) (names_in more) ∙ ap (λ (l : List (List ℕ)). c.names ++ l) (sym (filter_map-append name_in items more));
       differ = λ apart. second.differ (first.differ apart);
@@ -83,10 +74,6 @@ pub bytes_behind : (c d : Cursor) (items : List Item) → AreBytes c.rest → Fo
 bytes_behind c d items bytes follows =
     let left : drop (length (flat items)) c.rest ≡ d.rest = ap (drop (length (flat items))) follows.spells ∙ drop_at (flat items) d.rest _ refl in
     subst AreBytes left (All-drop (λ b. b < 256) (length (flat items)) c.rest bytes)
-
--- what is left isn't longer
-pub no_longer : (c d : Cursor) (items : List Item) → Follows c items d → length d.rest ≤ length c.rest
-no_longer c d items follows = let n = ap length follows.spells ∙ length-append (flat items) d.rest in omega arith
 
 -- behind a record less is left
 pub shorter_behind : (c d : Cursor) (i : Item) (items : List Item) → Follows c (i ∷ items) d → length d.rest < length c.rest

@@ -1,6 +1,7 @@
 pub mod Predicting
 pub mod Decided
 pub mod Aligned
+pub mod Appended
 pub mod Last
 pub mod Reasons
 pub mod Unique
@@ -11,10 +12,11 @@ pub mod GrammarLaws
 pub mod Following
 pub mod Causes
 pub mod WordsRead
-pub mod Steps
 pub mod Rounds
 pub mod Leaving
 pub mod Safe
 pub mod Predicts
 pub mod Ending
 pub mod Streaming
+pub mod Cuts
+pub mod StreamOrStop

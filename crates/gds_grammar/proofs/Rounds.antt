@@ -6,11 +6,11 @@ use Rattle.gds_records.proofs.Deciding.{length_spelled}
 use Rattle.gds_grammar.specs.Grammar.{Grammar, many}
 use Rattle.gds_grammar.specs.Words.{nullable, firsts}
 use Rattle.gds_grammar.specs.Conditions.{is_in}
-use Rattle.gds_grammar.specs.Reading.{Cursor, Fault, Taken, fault, peek, peeked, after, then_read, choose, rounds, read}
+use Rattle.gds_grammar.specs.Reading.{Cursor, Fault, Taken, fault, peek, after, then_read, choose, rounds, read}
 use Rattle.gds_grammar.specs.declared.cause.Cause.TheVariants.{NotClosed}
 use Rattle.gds_grammar.proofs.Predicting.{AreBytes}
 use Rattle.gds_grammar.proofs.GrammarLaws.{nullable_empty, clash}
-use Rattle.gds_grammar.proofs.Following.{bytes_behind, no_longer, shorter_behind}
+use Rattle.gds_grammar.proofs.Following.{bytes_behind, shorter_behind}
 use Rattle.gds_grammar.proofs.Causes.{peeks_record}
 use Rattle.gds_grammar.proofs.WordsRead.{IsWord, Words, reads}
 
@@ -24,9 +24,6 @@ word_shorter g c d (i ∷ items) some here = shorter_behind c d i items here.fol
 pub read_shorter : (g : Grammar) (c d : Cursor) (items : List Item) → nullable g ≡ false → AreBytes c.rest → read g c ≡ Ok (items, d) → length d.rest < length c.rest
 read_shorter g c d items some bytes e = word_shorter g c d items some (subst (Words g c) e (reads g c bytes))
 
-pub read_no_longer : (g : Grammar) (c d : Cursor) (items : List Item) → AreBytes c.rest → read g c ≡ Ok (items, d) → length d.rest ≤ length c.rest
-read_no_longer g c d items bytes e = let here : IsWord g c items d = subst (Words g c) e (reads g c bytes) in no_longer c d items here.follows
-
 pub read_leaves_bytes : (g : Grammar) (c d : Cursor) (items : List Item) → AreBytes c.rest → read g c ≡ Ok (items, d) → AreBytes d.rest
 read_leaves_bytes g c d items bytes e = let here : IsWord g c items d = subst (Words g c) e (reads g c bytes) in bytes_behind c d items bytes here.follows
 
@@ -36,35 +33,6 @@ peeks_some c i bytes e =
     let begins = peeks_record c i bytes e in
     let n = ap length begins.spells ∙ length-append (spelled i) (drop (length (spelled i)) c.rest) in
     omega (arith, length_spelled i)
-
-peek_none_at : (c : Cursor) (rest : List ℕ) → length rest ≤ 0 → peeked c rest ≡ Err (fault c NotClosed)
-peek_none_at c [] none = refl
-peek_none_at c (b ∷ rest) none = absurd (omega arith)
-
-pub peek_none : (c : Cursor) → length c.rest ≤ 0 → peek c ≡ Err (fault c NotClosed)
-unfolding peek
-peek_none c none = peek_none_at c c.rest none
-
--- ---- how many rounds are allowed doesn't matter where they are enough
-
-same_then : (a : Grammar) (c : Cursor) (r : Taken) (one other : Cursor → Taken) → nullable a ≡ false → AreBytes c.rest → Words a c r
-    → ((d : Cursor) → AreBytes d.rest → length d.rest < length c.rest → one d ≡ other d) → then_read r one ≡ then_read r other
-same_then a c (Err f) one other some bytes here same = refl
-same_then a c (Ok r) one other some bytes here same = ap (after r.0) (same r.1 (bytes_behind c r.1 r.0 bytes here.follows) (word_shorter a c r.1 r.0 some here))
-
-pub rounds_enough : (a : Grammar) → nullable a ≡ false → (n m : ℕ) (c : Cursor) → AreBytes c.rest → length c.rest ≤ n → length c.rest ≤ m
-    → rounds n (firsts a) (read a) c ≡ rounds m (firsts a) (read a) c
-rounds_enough a some zero zero c bytes short long = refl
-rounds_enough a some zero (suc m) c bytes short long =
-    ap (λ p. choose (firsts a) p (Err (fault c NotClosed)) (Ok ([], c))) (peek_none c short)
-    ∙ sym (ap (λ p. choose (firsts a) p (then_read (read a c) (rounds m (firsts a) (read a))) (Ok ([], c))) (peek_none c short))
-rounds_enough a some (suc n) zero c bytes short long =
-    ap (λ p. choose (firsts a) p (then_read (read a c) (rounds n (firsts a) (read a))) (Ok ([], c))) (peek_none c long)
-    ∙ sym (ap (λ p. choose (firsts a) p (Err (fault c NotClosed)) (Ok ([], c))) (peek_none c long))
-rounds_enough a some (suc n) (suc m) c bytes short long =
-    ap (λ r. choose (firsts a) (peek c) r (Ok ([], c)))
-    (same_then a c (read a c) (rounds n (firsts a) (read a)) (rounds m (firsts a) (read a)) some bytes (reads a c bytes)
-    (λ d left less. rounds_enough a some n m d left (omega arith) (omega arith)))
 
 -- ---- a loop
 

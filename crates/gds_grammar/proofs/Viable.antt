@@ -1,6 +1,6 @@
 -- Records that begin a stream go on as one by any types that the grammar allows.
 use Rattle.std.proofs.Common.{◌≡◌, ◌≢◌, ℕ, ◌+◌, ◌*◌, ◌^◌, ◌<◌, ◌≤◌, eqb, List, [], ◌∷◌, ◌++◌, length, map, get_or, All, AllPairs, Contains, Option, Some, None, refl, sym, ap, ◌∙◌, subst, append_assoc, arith}
-use Rattle.std.specs.List.{fold, cons_option, AllByRecursion}
+use Rattle.std.specs.List.{cons_option, AllByRecursion}
 use Rattle.std.proofs.lemmas.Bool.{cond_both, eqb-true}
 use Rattle.std.proofs.lemmas.List.{append-nil, map-append, length-append, drop_at}
 use Rattle.std.proofs.lemmas.List.Elements.{filter_map-append, All-from_recursion, All-head, All-tail, All-drop}
@@ -12,20 +12,9 @@ use Rattle.gds_grammar.specs.Grammar.{In}
 use Rattle.gds_grammar.specs.Format.{stream}
 use Rattle.gds_grammar.specs.Conditions.{trim, kind_after, name_in, names_in, InContext, Placed, AreStream}
 use Rattle.gds_grammar.specs.Stops.{GoesOn, Admits, kind_of}
+use Rattle.gds_grammar.proofs.Appended.{placed_append, context_append}
 use Rattle.gds_grammar.proofs.Last.{types, types_all}
 use Rattle.gds_grammar.proofs.Model.{Model, model}
-
--- ---- lists one after the other
-
-placed_append : (place : ℕ) (items more : List Item) → Placed place items → Placed (place + length (flat items)) more → Placed place (items ++ more)
-placed_append place [] more p q = subst (λ (n : ℕ). Placed n more) (omega arith) q
-placed_append place (i ∷ items) more p q =
-    let same : place + length (flat (i ∷ items)) ≡ (place + length (spelled i)) + length (flat items) = omega (arith, length-append (spelled i) (flat items)) in
-    (p.0, placed_append (place + length (spelled i)) items more p.1 (subst (λ (n : ℕ). Placed n more) same q))
-
-context_append : (kind : Option ℕ) (items more : List Item) → InContext kind items → InContext (fold kind_after kind items) more → InContext kind (items ++ more)
-context_append kind [] more p q = q
-context_append kind (i ∷ items) more p q = (p.0, p.1, p.2, context_append (kind_after kind i) items more p.3 q)
 
 -- ---- names
 

@@ -1,10 +1,10 @@
 -- What a stream's records owe where they stand. (GDSII Release 6.)
-use Rattle.std.specs.Prelude.{◌≡◌, ◌≢◌, ℕ, zero, suc, ◌+◌, ◌-◌, ◌*◌, ◌/◌, ◌%◌, ◌<◌, ◌≤◌, Bool, not, ◌&&◌, ◌==◌, if◌then◌else◌, MatchBool, List, [], ◌∷◌, length, map, take, drop, AllPairs, Option, Some, None, unwrap_or, IfSome}
+use Rattle.std.specs.Prelude.{◌≡◌, ◌≢◌, ℕ, zero, suc, ◌+◌, ◌-◌, ◌*◌, ◌/◌, ◌%◌, ◌<◌, ◌≤◌, Bool, not, ◌&&◌, ◌==◌, if◌then◌else◌, MatchBool, List, [], ◌∷◌, ◌++◌, length, map, take, drop, replicate, AllPairs, Option, Some, None, unwrap_or, IfSome}
 use Rattle.std.specs.Bool.{OnTrue}
 use Rattle.std.specs.List.{list_any, filter_map}
 use Rattle.rt_base.specs.Text.{IsText}
-use Rattle.gds_records.specs.declared.types.TheConstants.{NO_DATA, BITS, TWO_BYTES, FOUR_BYTES, REAL, BGNLIB, LIBNAME, UNITS, BGNSTR, STRNAME, BOUNDARY, PATH, SREF, AREF, TEXT, XY, SNAME, COLROW, NODE, STRING, BOX}
-use Rattle.gds_records.specs.Records.{Item, spelled, data_of, unit, Framed}
+use Rattle.gds_records.specs.declared.types.TheConstants.{NO_DATA, BITS, TWO_BYTES, FOUR_BYTES, REAL, BGNLIB, LIBNAME, UNITS, BGNSTR, STRNAME, BOUNDARY, PATH, SREF, AREF, TEXT, XY, SNAME, COLROW, NODE, STRING, BOX, STARTS}
+use Rattle.gds_records.specs.Records.{Item, spelled, flat, data_of, unit, Framed}
 use Rattle.gds_grammar.specs.Grammar.{In}
 use Rattle.gds_grammar.specs.Format.{stream}
 
@@ -14,7 +14,7 @@ is_in codes code = list_any (λ c. c == code) codes
 
 -- the types that begin an element
 abbrev pub starts : List ℕ
-starts = BOUNDARY ∷ PATH ∷ SREF ∷ AREF ∷ TEXT ∷ NODE ∷ BOX ∷ []
+starts = STARTS
 
 -- the type of the last element that began, behind a record
 abbrev pub kind_after : Option ℕ → Item → Option ℕ
@@ -102,3 +102,10 @@ pub record AreStream (items : List Item) : Type 0 where
   pub grammar : In stream (map (λ i. i.code) items)
   pub each : InContext None items
   pub differ : AllPairs (λ a b. a ≢ b) (names_in items)
+
+-- the bytes hold a stream: they are its records, with zeros behind them
+pub record HoldStream (bytes : List ℕ) : Type 0 where
+  pub items : List Item
+  pub zeros : ℕ
+  pub stream : AreStream items
+  pub spells : bytes ≡ flat items ++ replicate zeros 0

@@ -1,11 +1,10 @@
 -- Which records a stream has, in which order. (GDSII Release 6; where skipped records may stand is this project's own.)
-use Rattle.std.specs.Prelude.{[], ◌∷◌}
-use Rattle.gds_records.specs.declared.types.TheConstants.{HEADER, BGNLIB, LIBNAME, UNITS, ENDLIB, BGNSTR, STRNAME, ENDSTR, BOUNDARY, PATH, SREF, AREF, TEXT, LAYER, DATATYPE, WIDTH, XY, ENDEL, SNAME, COLROW, NODE, TEXTTYPE, PRESENTATION, STRING, STRANS, MAG, ANGLE, PATHTYPE, ELFLAGS, NODETYPE, PROPATTR, PROPVALUE, BOX, BOXTYPE, REFLIBS, FONTS, GENERATIONS, ATTRTABLE, STRCLASS, FORMAT, MASK, ENDMASKS, LIBDIRSIZE, SRFNAME, LIBSECUR, PLEX, BGNEXTN, ENDEXTN}
-use Rattle.gds_grammar.specs.Grammar.{Grammar, one_of, ◌‣◌, ◌∣◌, many, type, maybe}
+use Rattle.gds_records.specs.declared.types.TheConstants.{HEADER, BGNLIB, LIBNAME, UNITS, ENDLIB, BGNSTR, STRNAME, ENDSTR, BOUNDARY, PATH, SREF, AREF, TEXT, LAYER, DATATYPE, WIDTH, XY, ENDEL, SNAME, COLROW, NODE, TEXTTYPE, PRESENTATION, STRING, STRANS, MAG, ANGLE, PATHTYPE, ELFLAGS, NODETYPE, PROPATTR, PROPVALUE, BOX, BOXTYPE, SKIPPED, PLEX, BGNEXTN, ENDEXTN}
+use Rattle.gds_grammar.specs.Grammar.{Grammar, any_of, ◌‣◌, ◌∣◌, many, type, maybe}
 
 -- the records that are skipped
 unfoldable pub skipped : Grammar
-skipped = one_of REFLIBS (FONTS ∷ GENERATIONS ∷ ATTRTABLE ∷ STRCLASS ∷ FORMAT ∷ MASK ∷ ENDMASKS ∷ LIBDIRSIZE ∷ SRFNAME ∷ LIBSECUR ∷ [])
+skipped = any_of SKIPPED
 
 -- what may stand at the head of an element
 unfoldable pub head : Grammar

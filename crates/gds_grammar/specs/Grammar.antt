@@ -16,6 +16,11 @@ pub data Grammar : Type 0 where
 abbrev pub type : ℕ → Grammar
 type code = one_of code []
 
+-- one record of one of these types, of which there is one at least
+abbrev pub any_of : List ℕ → Grammar
+any_of [] = nothing
+any_of (code ∷ codes) = one_of code codes
+
 -- the part, or nothing
 abbrev pub maybe : Grammar → Grammar
 maybe g = g ∣ nothing

@@ -101,3 +101,9 @@ pub record Stops (bytes : List ℕ) (place : ℕ) (cause : Cause) : Type 0 where
   pub rest : List ℕ
   pub front : bytes ≡ flat items ++ rest
   pub why : Why cause items rest place
+
+-- the bytes stop being a stream at some place, for some cause
+pub record StopSomewhere (bytes : List ℕ) : Type 0 where
+  pub place : ℕ
+  pub cause : Cause
+  pub stops : Stops bytes place cause

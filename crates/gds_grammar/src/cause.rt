@@ -1,3 +1,4 @@
+//! Why bytes are no stream. (This project's own.)
 use thiserror::Error;
 
 /// Why bytes are no stream, at the place up to which they begin one. The causes are tested in the order NotClosed, those of a

@@ -6,4 +6,7 @@ mod cause;
 mod laws;
 
 pub use cause::Cause;
-pub use laws::{ends_longest, no_stream_stops, one_fault, one_stream};
+pub use laws::{
+    a_cut_stream_stops, bytes_hold_a_stream_or_stop, ends_longest, no_stream_stops, one_fault,
+    one_stream,
+};

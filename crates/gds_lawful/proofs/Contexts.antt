@@ -8,7 +8,8 @@ use Rattle.gds_grammar.specs.Conditions.{is_in, starts, kind_after, Counted, InC
 use Rattle.gds_grammar.proofs.Following.{codes}
 use Rattle.gds_grammar.proofs.GrammarLaws.{is_in_left, is_in_right}
 use Rattle.gds_stream.specs.Contents.{held}
-use Rattle.gds_lawful.specs.Values.{IsOne, AreOf}
+use Rattle.gds_stream.specs.Gives.{IsOne}
+use Rattle.gds_lawful.specs.Values.{AreOf}
 use Rattle.gds_lawful.proofs.PieceValues.{apart, apart_at}
 
 -- ---- words taken apart
@@ -53,7 +54,8 @@ pub record Single (code : ℕ) (items : List Item) : Type 0 where
   pub whole : items ≡ item ∷ []
   pub of_type : item.code ≡ code
 
-no_items : (items : List Item) → codes items ≡ [] → items ≡ []
+-- no types, no records
+pub no_items : (items : List Item) → codes items ≡ [] → items ≡ []
 no_items [] e = refl
 no_items (i ∷ items) e = absurd (omega (arith, ap length e))
 

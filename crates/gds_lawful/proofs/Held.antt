@@ -6,7 +6,9 @@ use Rattle.gds_records.specs.Records.{Item}
 use Rattle.gds_grammar.specs.Conditions.{is_in}
 use Rattle.gds_grammar.proofs.GrammarLaws.{is_in_left, is_in_right}
 use Rattle.gds_stream.specs.Contents.{held}
-use Rattle.gds_lawful.specs.Values.{IsOne, IsOneOrNone, AreOf}
+use Rattle.gds_stream.specs.Gives.{IsOne}
+use Rattle.gds_stream.proofs.Lacking.{or_else, held-append, same_held}
+use Rattle.gds_lawful.specs.Values.{AreOf}
 
 -- ---- records of some types
 
@@ -26,13 +28,9 @@ are_of_left codes others items = are_of_wider codes (codes ++ others) items (is_
 pub are_of_right : (codes others : List ℕ) (items : List Item) → AreOf others items → AreOf (codes ++ others) items
 are_of_right codes others items = are_of_wider others (codes ++ others) items (is_in_right codes others)
 
--- one record, and one or none
+-- one record
 pub one_of_type : (at code : ℕ) (body : List ℕ) (items : List Item) → IsOne at code body items → AreOf (code ∷ []) items
 one_of_type at code body items one = subst (AreOf (code ∷ [])) (sym one.1) (or_left (eqb code code) false (eq-eqb code code refl), tt)
-
-pub maybe_of_type : (at code : ℕ) (found : Option (List ℕ)) (items : List Item) → IsOneOrNone at code found items → AreOf (code ∷ []) items
-maybe_of_type at code None items none = subst (AreOf (code ∷ [])) (sym none) tt
-maybe_of_type at code (Some body) items one = one_of_type at code body items one
 
 -- ---- what records hold
 
@@ -44,42 +42,17 @@ none_held codes code (i ∷ items) other these =
     (λ same. absurd (both_ways (is_in codes code) other (subst (λ (c : ℕ). is_in codes c ≡ true) (eqb-true i.code code same) these.0)))
     (λ differs. none_held codes code items other these.1)
 
--- of records and others behind them
-abbrev or_else : Option (List ℕ) → Option (List ℕ) → Option (List ℕ)
-or_else None other = other
-or_else (Some body) other = Some body
-
-or_none : (found : Option (List ℕ)) → or_else found None ≡ found
-or_none None = refl
-or_none (Some body) = refl
-
-held-append : (code : ℕ) (items more : List Item) → held code (items ++ more) ≡ or_else (held code items) (held code more)
-held-append code [] more = refl
-held-append code (i ∷ items) more =
-    elim (cases_Bool (eqb i.code code)) [
-      | inl same ↦ rw same refl
-      | inr differs ↦ rw differs (held-append code items more)
-    ]
-
 -- behind records of which none has the type
 pub held_behind : (code : ℕ) (items more : List Item) → held code items ≡ None → held code (items ++ more) ≡ held code more
 held_behind code items more none = held-append code items more ∙ ap (λ (found : Option (List ℕ)). or_else found (held code more)) none
-
--- before records of which none has the type
-pub held_before : (code : ℕ) (items more : List Item) → held code more ≡ None → held code (items ++ more) ≡ held code items
-held_before code items more none = held-append code items more ∙ ap (or_else (held code items)) none ∙ or_none (held code items)
 
 -- where there is one of the type before
 pub held_first : (code : ℕ) (body : List ℕ) (items more : List Item) → held code items ≡ Some body → held code (items ++ more) ≡ Some body
 held_first code body items more some = held-append code items more ∙ ap (λ (found : Option (List ℕ)). or_else found (held code more)) some
 
--- of one record, and of one or none
+-- of one record
 pub held_one : (at code : ℕ) (body : List ℕ) (items : List Item) → IsOne at code body items → held code items ≡ Some body
 held_one at code body items one = ap (held code) one.1 ∙ cond-true (eqb code code) (Some body) None (eq-eqb code code refl)
-
-pub held_maybe : (at code : ℕ) (found : Option (List ℕ)) (items : List Item) → IsOneOrNone at code found items → held code items ≡ found
-held_maybe at code None items none = ap (held code) none
-held_maybe at code (Some body) items one = held_one at code body items one
 
 -- ---- parts, each with types of its own
 
@@ -130,6 +103,6 @@ held_part code (p ∷ []) once are =
     ]
 held_part code (p ∷ q ∷ parts) once are =
     elim (cases_Bool (is_in p.codes code)) [
-      | inl has ↦ rw has (held_before code p.items (joined (q ∷ parts)) (missed code (q ∷ parts) (sym (cond-true (is_in p.codes code) (misses code (q ∷ parts)) (has_once code (q ∷ parts)) has) ∙ once) are.1))
+      | inl has ↦ rw has (same_held code p.items (joined (q ∷ parts)) (missed code (q ∷ parts) (sym (cond-true (is_in p.codes code) (misses code (q ∷ parts)) (has_once code (q ∷ parts)) has) ∙ once) are.1))
       | inr hasnt ↦ rw hasnt (held_behind code p.items (joined (q ∷ parts)) (none_held p.codes code p.items hasnt are.0) ∙ held_part code (q ∷ parts) (sym (cond-false (is_in p.codes code) (misses code (q ∷ parts)) (has_once code (q ∷ parts)) hasnt) ∙ once) are.1)
     ]

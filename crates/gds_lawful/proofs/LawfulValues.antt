@@ -24,7 +24,7 @@ use Rattle.gds_lawful.proofs.Held.{one_of_type, are_of_both, are_of_left, are_of
 use Rattle.gds_lawful.proofs.Words.{types_of}
 use Rattle.gds_lawful.proofs.PieceValues.{kinds, apart, kind_gives, closes_element, no_elements, more_elements, structure_gives, no_structures, more_structures, library_gives}
 use Rattle.gds_lawful.proofs.PointCounts.{polygon, two_or_more, three_points}
-use Rattle.gds_lawful.proofs.Contexts.{split, both, Single, single, is_one, always, always_has, context_left, context_right, Owes, owes}
+use Rattle.gds_lawful.proofs.Contexts.{split, no_items, both, Single, single, is_one, always, always_has, context_left, context_right, Owes, owes}
 
 -- ---- elements
 
@@ -104,14 +104,10 @@ one_element k items word each =
 
 -- ---- the same of each of many words
 
-nothing_left : (items : List Item) → codes items ≡ [] → items ≡ []
-nothing_left [] e = refl
-nothing_left (i ∷ items) e = absurd (omega (arith, ap length e))
-
 many_hold : (a : Grammar) (Holds : List Item → Type 0) → Holds [] → ((first second : List Item) → Holds first → Holds second → Holds (first ++ second))
     → ((k : Option ℕ) (items : List Item) → In a (codes items) → InContext k items → Holds items)
     → (us : List (List ℕ)) (k : Option ℕ) (items : List Item) → AllByRecursion (In a) us → codes items ≡ concat us → InContext k items → Holds items
-many_hold a Holds none more one [] k items words e each = subst Holds (sym (nothing_left items e)) none
+many_hold a Holds none more one [] k items words e each = subst Holds (sym (no_items items e)) none
 many_hold a Holds none more one (u ∷ us) k items words e each =
     let parts = split items u (concat us) e in
     let there : InContext k (parts.first ++ parts.second) = subst (InContext k) parts.whole each in

@@ -4,7 +4,7 @@ use Rattle.std.specs.List.{filter_map, AllByRecursion}
 use Rattle.std.specs.Option.{option_to_list}
 use Rattle.std.specs.Prelude.{unwrap_or}
 use Rattle.std.proofs.lemmas.Bool.{true≢false, both_ways, cond-true, cond-false, eqb-true, or_cases, not-true, and_parts, false_from_ne_true}
-use Rattle.gds_records.specs.declared.types.TheConstants.{HEADER, BGNLIB, LIBNAME, UNITS, ENDLIB, BGNSTR, STRNAME, ENDSTR, ENDEL, PROPATTR, PROPVALUE, LAYER, DATATYPE, WIDTH, XY, SNAME, COLROW, TEXTTYPE, STRING, STRANS, MAG, ANGLE, PATHTYPE, BOXTYPE}
+use Rattle.gds_records.specs.declared.types.TheConstants.{HEADER, BGNLIB, LIBNAME, UNITS, ENDLIB, BGNSTR, STRNAME, ENDSTR, ENDEL, PROPATTR, PROPVALUE}
 use Rattle.gds_records.specs.Records.{Item}
 use Rattle.gds_grammar.specs.Grammar.{Grammar, ◌∣◌, many, In}
 use Rattle.gds_grammar.specs.Format.{skipped, head, turn, boundary, path, sref, aref, label, node, box, property, element, structure}
@@ -15,8 +15,10 @@ use Rattle.gds_grammar.proofs.Last.{types}
 use Rattle.gds_stream.specs.declared.library.Element.{Element}
 use Rattle.gds_stream.specs.declared.library.Structure.{Structure}
 use Rattle.gds_stream.specs.Contents.{pieces, pieces_from, element_of, elements_in, structure_of, library_of}
-use Rattle.gds_lawful.specs.Values.{IsOne, AreOf, closing_types, AreElements, structures_in, AreStructures}
-use Rattle.gds_lawful.proofs.Held.{Part, ArePart, joined, held_part, held_one, held_first, held_before, none_held, one_of_type, are_of_both, are_of_left, are_of_right}
+use Rattle.gds_stream.specs.Gives.{IsOne, structures_in}
+use Rattle.gds_stream.proofs.Holding.{inside}
+use Rattle.gds_lawful.specs.Values.{AreOf, closing_types, AreElements, AreStructures}
+use Rattle.gds_lawful.proofs.Held.{Part, ArePart, joined, held_part, held_one, held_first, one_of_type, are_of_both, are_of_left, are_of_right}
 use Rattle.gds_lawful.proofs.Words.{types_of}
 
 -- ---- pieces
@@ -42,13 +44,6 @@ outside opening closing types [] more none these = refl
 outside opening closing types (i ∷ items) more none these =
     cond-false (is_in opening i.code) (pieces_from opening closing (Some (i ∷ [])) (items ++ more)) (pieces opening closing (items ++ more)) (apart_at types opening i.code none these.0)
     ∙ outside opening closing types items more none these.1
-
--- records of which none closes are taken into the piece that is open
-pub inside : (opening : List ℕ) (closing : ℕ) (piece middle others : List Item) → AllByRecursion (λ i. eqb i.code closing ≡ false) middle
-    → pieces_from opening closing (Some piece) (middle ++ others) ≡ pieces_from opening closing (Some (piece ++ middle)) others
-inside opening closing piece [] others open_still = ap (λ (p : List Item). pieces_from opening closing (Some p) others) (sym (append-nil piece))
-inside opening closing piece (i ∷ middle) others open_still =
-    rw open_still.0 (inside opening closing (piece ++ i ∷ []) middle others open_still.1 ∙ ap (λ (p : List Item). pieces_from opening closing (Some p) others) (append_assoc piece (i ∷ []) middle))
 
 none_closes : (closing : ℕ) (types : List ℕ) (items : List Item) → is_in types closing ≡ false → AreOf types items → AllByRecursion (λ i. eqb i.code closing ≡ false) items
 none_closes closing types [] none these = tt
@@ -102,38 +97,6 @@ closes_element e properties is_end others =
     are_of_both closing_types properties (e ∷ []) (are_of_left (PROPATTR ∷ PROPVALUE ∷ []) (ENDEL ∷ []) properties (types_of (many property) properties others))
     (are_of_right (PROPATTR ∷ PROPVALUE ∷ []) (ENDEL ∷ []) (e ∷ []) (is_end, tt))
 
--- behind what an element's kind wants nothing more of it is looked up
-pub element_closed : (i : Item) (rest closing : List Item) → AreOf closing_types closing → element_of (i ∷ (rest ++ closing)) ≡ element_of (i ∷ rest)
-element_closed i rest closing these =
-    simp (
-      held_before LAYER rest closing (none_held closing_types LAYER closing refl these),
-      held_before DATATYPE rest closing (none_held closing_types DATATYPE closing refl these),
-      held_before TEXTTYPE rest closing (none_held closing_types TEXTTYPE closing refl these),
-      held_before BOXTYPE rest closing (none_held closing_types BOXTYPE closing refl these),
-      held_before PATHTYPE rest closing (none_held closing_types PATHTYPE closing refl these),
-      held_before WIDTH rest closing (none_held closing_types WIDTH closing refl these),
-      held_before XY rest closing (none_held closing_types XY closing refl these),
-      held_before SNAME rest closing (none_held closing_types SNAME closing refl these),
-      held_before COLROW rest closing (none_held closing_types COLROW closing refl these),
-      held_before STRING rest closing (none_held closing_types STRING closing refl these),
-      held_before STRANS rest closing (none_held closing_types STRANS closing refl these),
-      held_before MAG rest closing (none_held closing_types MAG closing refl these),
-      held_before ANGLE rest closing (none_held closing_types ANGLE closing refl these),
-    ) refl
-
--- so the element is what the records of its kind give
-shape_closed : (shape closing : List Item) (found : Option Element) → In kinds (codes shape) → AreOf closing_types closing → element_of shape ≡ found → element_of (shape ++ closing) ≡ found
-unfolding box node label aref sref path boundary
-shape_closed [] closing found kind these gives = absurd (true≢false (sym (nullable_empty kinds kind)))
-shape_closed (i ∷ rest) closing found kind these gives = element_closed i rest closing these ∙ gives
-
-pub element_gives : (at : ℕ) (none : List ℕ) (found : Option Element) (shape properties ends : List Item) → In kinds (codes shape) → element_of shape ≡ found → In (many property) (codes properties)
-    → IsOne at ENDEL none ends → AreElements (shape ++ (properties ++ ends)) (option_to_list found)
-element_gives at none found shape properties ends kind gives others is_end = λ more.
-    let e : Item = record { at = at; code = ENDEL; form = is_end.0; body = none } in
-    subst (λ (l : List Item). elements_in ((shape ++ (properties ++ l)) ++ more) ≡ option_to_list found ++ elements_in more) (sym is_end.1)
-    (kind_gives at is_end.0 none found shape properties more kind others (shape_closed shape (properties ++ e ∷ []) found kind (closes_element e properties refl others) gives))
-
 -- no elements, and elements with more behind them
 pub no_elements : AreElements [] []
 no_elements = λ more. refl
@@ -141,10 +104,6 @@ no_elements = λ more. refl
 pub more_elements : (items others : List Item) (elements found : List Element) → AreElements items elements → AreElements others found → AreElements (items ++ others) (elements ++ found)
 more_elements items others elements found these those = λ more.
     ap elements_in (append_assoc items others more) ∙ these (others ++ more) ∙ ap (λ (es : List Element). elements ++ es) (those more) ∙ sym (append_assoc elements found (elements_in more))
-
--- with a node behind them they are the same
-pub same_elements : (items others : List Item) (elements : List Element) → AreElements items elements → AreElements others [] → AreElements (items ++ others) elements
-same_elements items others elements these those = subst (AreElements (items ++ others)) (append-nil elements) (more_elements items others elements [] these those)
 
 -- ---- structures
 

@@ -5,3 +5,4 @@ pub mod Magnitudes
 pub mod Places
 pub mod Spelled
 pub mod Turns
+pub mod Bytes

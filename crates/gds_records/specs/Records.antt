@@ -2,7 +2,7 @@
 use Rattle.std.specs.Prelude.{◌≡◌, ℕ, ◌+◌, ◌%◌, ◌<◌, ◌≤◌, Bool, ◌||◌, ◌==◌, if◌then◌else◌, IsTrue, MatchBool, List, [], ◌∷◌, ◌++◌, length, All, Option, Some, None, is_some, IfSome}
 use Rattle.std.specs.List.{flat_map, list_any}
 use Rattle.std.specs.Int.{w16, to_be_bytes}
-use Rattle.gds_records.specs.declared.types.TheConstants.{NO_DATA, BITS, TWO_BYTES, FOUR_BYTES, REAL, CHARACTERS, HEADER, BGNLIB, LIBNAME, UNITS, ENDLIB, BGNSTR, STRNAME, ENDSTR, BOUNDARY, PATH, SREF, AREF, TEXT, LAYER, DATATYPE, WIDTH, XY, ENDEL, SNAME, COLROW, NODE, TEXTTYPE, PRESENTATION, STRING, STRANS, MAG, ANGLE, PATHTYPE, ELFLAGS, NODETYPE, PROPATTR, PROPVALUE, BOX, BOXTYPE, REFLIBS, FONTS, GENERATIONS, ATTRTABLE, STRCLASS, FORMAT, MASK, ENDMASKS, LIBDIRSIZE, SRFNAME, LIBSECUR, PLEX, BGNEXTN, ENDEXTN}
+use Rattle.gds_records.specs.declared.types.TheConstants.{NO_DATA, BITS, TWO_BYTES, FOUR_BYTES, REAL, CHARACTERS, HEADER, BGNLIB, LIBNAME, UNITS, ENDLIB, BGNSTR, STRNAME, ENDSTR, BOUNDARY, PATH, SREF, AREF, TEXT, LAYER, DATATYPE, WIDTH, XY, ENDEL, SNAME, COLROW, NODE, TEXTTYPE, PRESENTATION, STRING, STRANS, MAG, ANGLE, PATHTYPE, ELFLAGS, NODETYPE, PROPATTR, PROPVALUE, BOX, BOXTYPE, SKIPPED, UNREAD}
 
 -- a record: the place of its first byte, its type, its data type and its data
 pub record Item : Type 0 where
@@ -71,13 +71,9 @@ data_in (row ∷ rows) code = if row.0 == code then Some row.1 else data_in rows
 abbrev pub data_of : ℕ → Option ℕ
 data_of code = data_in table code
 
--- the types of records that are skipped
-abbrev pub skipped_types : List ℕ
-skipped_types = REFLIBS ∷ FONTS ∷ GENERATIONS ∷ ATTRTABLE ∷ STRCLASS ∷ FORMAT ∷ MASK ∷ ENDMASKS ∷ LIBDIRSIZE ∷ SRFNAME ∷ LIBSECUR ∷ []
-
--- the types whose data aren't looked at
+-- the types whose data aren't looked at: those of records that are skipped, and some of records that aren't
 abbrev pub free_types : List ℕ
-free_types = skipped_types ++ PLEX ∷ BGNEXTN ∷ ENDEXTN ∷ []
+free_types = SKIPPED ++ UNREAD
 
 -- whether the data of the type aren't looked at
 abbrev pub is_free : ℕ → Bool

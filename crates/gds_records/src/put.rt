@@ -1,3 +1,4 @@
+//! A record is put behind bytes. (GDSII Release 6.)
 ghost use Rattle.std.specs.Prelude.{◌≡◌, ◌%◌, ◌≤◌, ◌++◌, length, OnOk, OnErr};
 ghost use Rattle.gds_records.specs.Records.{spelled_as};
 

@@ -1,3 +1,4 @@
+//! The record that bytes begin with, or why they begin with none. (GDSII Release 6.)
 ghost use Rattle.std.specs.Prelude.{◌≡◌, ◌+◌, ◌^◌, ◌<◌, ◌≤◌, ◌++◌, length, drop, MatchResult, IfOk, IfErr};
 ghost use Rattle.gds_records.specs.Records.{spelled, Framed};
 ghost use Rattle.gds_records.specs.Framing.{framing, framed_as, item_at, FramingFault};

@@ -1,3 +1,4 @@
+//! Reals of eight bytes that are whole numbers or quarter turns. (GDSII Release 6.)
 ghost use Rattle.std.specs.Prelude.{◌≡◌, ◌≢◌, ◌+◌, ◌*◌, ◌/◌, ◌%◌, ◌^◌, ◌<◌, ◌≤◌, ◌↔◌, ℕ, ℤ, pos, ◌*ℤ◌, unsigned_abs, MatchOption, IsTrue};
 ghost use Rattle.gds_records.specs.Reals.{is_negative, exponent, fraction, IsMagnitude, IsReal, IsQuarterTurns, signed};
 

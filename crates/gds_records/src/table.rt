@@ -1,13 +1,13 @@
+//! What each type of record has for data. (GDSII Release 6.)
 ghost use Rattle.std.specs.Prelude.{◌≡◌};
 ghost use Rattle.gds_records.specs.Records.{data_of, is_free, known};
 ghost use Rattle.gds_records.specs.Framing.{whole_items, has_its_data};
 
 use crate::types::{
-    ANGLE, AREF, ATTRTABLE, BGNEXTN, BGNLIB, BGNSTR, BITS, BOUNDARY, BOX, BOXTYPE, CHARACTERS,
-    COLROW, DATATYPE, ELFLAGS, ENDEL, ENDEXTN, ENDLIB, ENDMASKS, ENDSTR, FONTS, FORMAT, FOUR_BYTES,
-    GENERATIONS, HEADER, LAYER, LIBDIRSIZE, LIBNAME, LIBSECUR, MAG, MASK, NO_DATA, NODE, NODETYPE,
-    PATH, PATHTYPE, PLEX, PRESENTATION, PROPATTR, PROPVALUE, REAL, REFLIBS, SNAME, SREF, SRFNAME,
-    STRANS, STRCLASS, STRING, STRNAME, TEXT, TEXTTYPE, TWO_BYTES, UNITS, WIDTH, XY,
+    ANGLE, AREF, BGNLIB, BGNSTR, BITS, BOUNDARY, BOX, BOXTYPE, CHARACTERS, COLROW, DATATYPE,
+    ELFLAGS, ENDEL, ENDLIB, ENDSTR, FOUR_BYTES, HEADER, LAYER, LIBNAME, MAG, NO_DATA, NODE,
+    NODETYPE, PATH, PATHTYPE, PRESENTATION, PROPATTR, PROPVALUE, REAL, SKIPPED, SNAME, SREF,
+    STRANS, STRING, STRNAME, TEXT, TEXTTYPE, TWO_BYTES, UNITS, UNREAD, WIDTH, XY,
 };
 
 // The data type of a type, None where the data aren't looked at or there is no such type.
@@ -41,23 +41,7 @@ fn data_of(code: u8) -> Option<u8>
 fn is_free(code: u8) -> bool
     ensures { result ≡ is_free code }
 {
-    matches!(
-        code,
-        REFLIBS
-            | FONTS
-            | GENERATIONS
-            | ATTRTABLE
-            | STRCLASS
-            | FORMAT
-            | MASK
-            | ENDMASKS
-            | LIBDIRSIZE
-            | SRFNAME
-            | LIBSECUR
-            | PLEX
-            | BGNEXTN
-            | ENDEXTN
-    )
+    SKIPPED.contains(&code) || UNREAD.contains(&code)
 }
 
 /// Whether there is such a type.

@@ -108,3 +108,25 @@ pub const PLEX: u8 = 0x2f;
 pub const BGNEXTN: u8 = 0x30;
 /// A record whose data aren't looked at.
 pub const ENDEXTN: u8 = 0x31;
+
+/// The types of records that are skipped where they may stand: their data aren't looked at. (This project's choice.)
+pub const SKIPPED: [u8; 11] = [
+    REFLIBS,
+    FONTS,
+    GENERATIONS,
+    ATTRTABLE,
+    STRCLASS,
+    FORMAT,
+    MASK,
+    ENDMASKS,
+    LIBDIRSIZE,
+    SRFNAME,
+    LIBSECUR,
+];
+
+/// The types of records whose data aren't looked at though they aren't skipped: a plex number and a path's extensions,
+/// which nothing here depends on. (This project's choice.)
+pub const UNREAD: [u8; 3] = [PLEX, BGNEXTN, ENDEXTN];
+
+/// The types of records that begin an element.
+pub const STARTS: [u8; 7] = [BOUNDARY, PATH, SREF, AREF, TEXT, NODE, BOX];

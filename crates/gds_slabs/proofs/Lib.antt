@@ -13,3 +13,4 @@ pub mod Placing
 pub mod PathAreas
 pub mod Counts
 pub mod Nearness
+pub mod Corners

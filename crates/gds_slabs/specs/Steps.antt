@@ -1,5 +1,6 @@
 -- Placing by a step: a turn about the origin, then a shift. A cell goes where its unit square goes.
 use Rattle.std.specs.Prelude.{◌≡◌, ℕ, zero, suc, ℤ, pos, ◌^◌, neg_ℤ, ◌+ℤ◌, ◌-ℤ◌, ◌≤ℤ◌, Bool, true, false, List, map, All}
+use Rattle.std.specs.Int.{int_min, int_max}
 use Rattle.rt_cells.specs.Rectangles.{Rectangle, Holds}
 use Rattle.rt_base.specs.declared.plane.Rect.{Rect}
 use Rattle.rt_base.specs.Plane.{area, turned}
@@ -80,3 +81,10 @@ pub record ShiftsWithin (reach : ℤ) (step : Step) : Type 0 where
   pub right : step.dx ≤ℤ reach
   pub down : neg_ℤ reach ≤ℤ step.dy
   pub up : step.dy ≤ℤ reach
+
+-- two points are opposite corners of the rectangle
+pub record AreCorners (p q : ℤ × ℤ) (r : Rectangle) : Type 0 where
+  pub left : r.left ≡ int_min p.0 q.0
+  pub right : r.right ≡ int_max p.0 q.0
+  pub bottom : r.bottom ≡ int_min p.1 q.1
+  pub top : r.top ≡ int_max p.1 q.1

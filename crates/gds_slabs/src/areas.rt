@@ -1,3 +1,4 @@
+//! The rectangles of a path: those of its segments, and the squares at its points.
 ghost use Rattle.std.specs.Prelude.{◌≡◌, ◌≢◌, ◌↔◌, IsTrue, ◌^◌, ◌≤◌, ℤ, pos, ◌++◌, [], ◌∷◌, true, length, map, IfOk, OnOk};
 ghost use Rattle.std.specs.List.{filter};
 ghost use Rattle.std.specs.Int.{int_min, int_max};

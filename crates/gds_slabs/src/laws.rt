@@ -1,3 +1,4 @@
+//! What holds of slabs, of paths and of steps, for callers.
 ghost use Rattle.std.specs.Prelude.{◌≡◌, ◌↔◌, ℤ, ◌+ℤ◌, List, Contains};
 ghost use Rattle.rt_base.specs.declared.plane.Point.{Point};
 ghost use Rattle.rt_cells.specs.Rectangles.{Rectangle, IsNonempty, Holds, Covers};
@@ -6,7 +7,7 @@ ghost use Rattle.gds_slabs.specs.declared.step.Step.{Step};
 ghost use Rattle.gds_slabs.specs.Polygon.{Inside, IsClosed, IsSlanted};
 ghost use Rattle.gds_slabs.specs.Slabs.{IsSlabs};
 ghost use Rattle.gds_slabs.specs.Path.{PathArea, path_areas};
-ghost use Rattle.gds_slabs.specs.Steps.{moved_rect, moved_cell, IsMovedFrom, IsWithin, ShiftsWithin};
+ghost use Rattle.gds_slabs.specs.Steps.{moved_point, moved_rect, moved_cell, IsMovedFrom, IsWithin, ShiftsWithin, AreCorners};
 
 /// Law: a polygon has one list of slabs at most.
 pub fn slabs_are_one()
@@ -55,4 +56,10 @@ pub fn moved_rect_stays_within()
 /// Law: two cells are moved to two.
 pub fn moved_cells_are_apart()
     ensures { (step : Step) (p q : ℤ × ℤ) → moved_cell step p ≡ moved_cell step q → p ≡ q }
+{}
+
+/// Law: corners of a rectangle are moved as points are. So a label at a corner of a rectangle stays there.
+pub fn moved_corners_are_corners()
+    ensures { (step : Step) (p q : ℤ × ℤ) (r : Rectangle) → AreCorners p q r →
+        AreCorners (moved_point step p) (moved_point step q) (moved_rect step r) }
 {}

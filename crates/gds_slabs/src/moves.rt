@@ -1,3 +1,4 @@
+//! Where a step moves a point and a rectangle.
 ghost use Rattle.std.specs.Prelude.{◌≡◌, ◌^◌, pos, ◌+ℤ◌, true};
 ghost use Rattle.rt_base.specs.Plane.{area, IsCoordinate, AreCoordinates};
 ghost use Rattle.gds_slabs.specs.Steps.{shifted, moved_point as point_moved, moved_rect as rect_moved, rect_reflected, rect_quarter, rect_turned, rect_shifted, IsWithin};

@@ -1,3 +1,4 @@
+//! How a path ends.
 /// How a path ends. (GDSII Release 6: PATHTYPE.)
 #[derive(Clone, Copy, Debug, PartialEq, Eq, Drop)]
 pub enum PathEnd {

@@ -1,3 +1,4 @@
+//! What a path is drawn with, and the rectangles that it draws. It knows no points but the ones that it is given.
 ghost use Rattle.std.specs.Prelude.{◌≡◌, ◌^◌, pos, ◌+ℤ◌, ◌-ℤ◌, ◌<ℤ◌, ◌≤ℤ◌};
 
 /// What a path is drawn with. Lengths are in database units.

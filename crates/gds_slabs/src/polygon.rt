@@ -1,3 +1,4 @@
+//! When a polygon is closed, and when a side of it is slanted.
 ghost use Rattle.std.specs.Prelude.{◌≡◌, ◌↔◌, IsTrue};
 ghost use Rattle.std.specs.List.{list_any};
 ghost use Rattle.gds_slabs.specs.Polygon.{sides_from, slanted, IsClosed, IsSlanted};

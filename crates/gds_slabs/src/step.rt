@@ -1,3 +1,4 @@
+//! How a reference places what it names.
 use rt_base::Orient;
 
 /// How a reference places what it names: a turn about the origin, and then a shift. (GDSII Release 6: SREF and AREF.)

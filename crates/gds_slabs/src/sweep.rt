@@ -1,3 +1,4 @@
+//! The rectangles of a polygon, row by row.
 ghost use Rattle.std.specs.Prelude.{◌≡◌, ◌-◌, ◌^◌, ◌++◌, ◌<ℤ◌, [], length, map, min, IfOk, OnOk};
 ghost use Rattle.rt_base.specs.Plane.{area};
 ghost use Rattle.gds_slabs.specs.Polygon.{IsClosed, IsSlanted};

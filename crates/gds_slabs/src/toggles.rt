@@ -1,3 +1,4 @@
+//! Where the sides of a polygon change what is inside, in the order of the rows.
 ghost use Rattle.std.specs.Prelude.{◌≡◌, IfOk, OnOk, All};
 ghost use Rattle.std.specs.List.Sorted.{IsPermutation};
 ghost use Rattle.gds_slabs.specs.Sweep.{toggles_from, toggles, toggled, AreAscending, IsSmallToggle};

@@ -1,12 +1,11 @@
 -- The types that begin the rules that are read again and again.
 use Rattle.std.proofs.Common.{[], ◌∷◌, refl}
-use Rattle.gds_records.specs.declared.types.TheConstants.{PROPATTR, BGNSTR}
-use Rattle.gds_records.specs.Records.{skipped_types}
+use Rattle.gds_records.specs.declared.types.TheConstants.{PROPATTR, BGNSTR, SKIPPED}
 use Rattle.gds_grammar.specs.Format.{skipped, boundary, path, sref, aref, label, node, box, property, element, structure}
 use Rattle.gds_grammar.specs.Conditions.{starts}
 use Rattle.gds_stream.proofs.Looping.{Begins}
 
-pub skipped_begins : Begins skipped skipped_types
+pub skipped_begins : Begins skipped SKIPPED
 unfolding skipped
 skipped_begins = record { some = refl; by = refl }
 

@@ -9,7 +9,9 @@ use Rattle.gds_stream.specs.declared.library.Element.{Element}
 use Rattle.gds_stream.specs.declared.library.Structure.{Structure}
 use Rattle.gds_stream.specs.Contents.{held, pieces_from, element_of, elements_in, structure_of, library_of}
 use Rattle.gds_stream.specs.Gives.{IsOne, IsShape, AddsElement, AddElements, AddsStructure, AddStructures, structures_in}
-use Rattle.gds_stream.proofs.Lacking.{or_else, or_nothing, held-append}
+use Rattle.gds_stream.specs.Rests.{GivesContents}
+use Rattle.gds_stream.specs.declared.library.Library.{Library}
+use Rattle.gds_stream.proofs.Lacking.{or_else, held-append, same_held}
 use Rattle.gds_stream.proofs.Values.{Nothing, Only}
 
 -- a record of another type before others
@@ -60,9 +62,6 @@ whole opening closing first last middle rest opens none closes =
     cond-true (is_in opening first.code) _ _ opens ∙ closed opening closing (first ∷ []) middle rest last none closes
 
 -- what is looked up in an element isn't behind it
-same_held : (code : ℕ) (items more : List Item) → held code more ≡ None → held code (items ++ more) ≡ held code items
-same_held code items more none = held-append code items more ∙ ap (or_else (held code items)) none ∙ or_nothing (held code items)
-
 pub same_element : (first : Item) (items more : List Item) → Nothing more → element_of (first ∷ (items ++ more)) ≡ element_of (first ∷ items)
 same_element first items more lack =
     let all : List Item = items in
@@ -217,22 +216,28 @@ pub record Quiet (items : List Item) : Type 0 where
 skip_piece : (items rest : List Item) → held BGNSTR items ≡ None → structures_in (items ++ rest) ≡ structures_in rest
 skip_piece items rest none = ap (map structure_of) (passed (BGNSTR ∷ []) ENDSTR items rest (none, tt))
 
-pub library_is : (h b k l j u s e : List Item) (c1 c2 c8 name reals text units : List ℕ) (structures : List Structure) → Only HEADER (Some c1) h → Only BGNLIB (Some c2) b → Quiet k → Only LIBNAME (Some name) l → Quiet j → Only UNITS (Some reals) u
-    → AddStructures s structures → Only ENDLIB (Some c8) e → text ≡ trim name → units ≡ reals
-    → record { name = text; units = units; structures = structures } ≡ library_of (h ++ (b ++ (k ++ (l ++ (j ++ (u ++ (s ++ e)))))))
-unfolding library_of
-library_is h b k l j u s e c1 c2 c8 name reals text units structures is_h is_b no_k is_l no_j is_u are is_e is_text are_units =
-    let items : List Item = h ++ (b ++ (k ++ (l ++ (j ++ (u ++ (s ++ e)))))) in
-    let has_name : held LIBNAME items ≡ Some name = simp (held-append, is_h.held_is, is_b.held_is, no_k.libname, is_l.held_is) refl in
-    let has_units : held UNITS items ≡ Some reals = simp (held-append, is_h.held_is, is_b.held_is, no_k.units, is_l.held_is, no_j.units, is_u.held_is) refl in
-    let has_structures : structures_in items ≡ structures =
-    skip_piece h (b ++ (k ++ (l ++ (j ++ (u ++ (s ++ e)))))) (is_h.held_is BGNSTR)
-    ∙ skip_piece b (k ++ (l ++ (j ++ (u ++ (s ++ e))))) (is_b.held_is BGNSTR)
-    ∙ skip_piece k (l ++ (j ++ (u ++ (s ++ e)))) no_k.bgnstr
-    ∙ skip_piece l (j ++ (u ++ (s ++ e))) (is_l.held_is BGNSTR)
-    ∙ skip_piece j (u ++ (s ++ e)) no_j.bgnstr
-    ∙ skip_piece u (s ++ e) (is_u.held_is BGNSTR)
+pub contents_are : (u s e : List Item) (c8 name reals text units : List ℕ) (structures : List Structure) → Only UNITS (Some reals) u → AddStructures s structures → Only ENDLIB (Some c8) e → text ≡ trim name → units ≡ reals
+    → GivesContents name (u ++ (s ++ e)) (record { name = text; units = units; structures = structures })
+contents_are u s e c8 name reals text units structures is_u are is_e is_text are_units =
+    let has_units : held UNITS (u ++ (s ++ e)) ≡ Some reals = simp (held-append, is_u.held_is) refl in
+    let has_structures : structures_in (u ++ (s ++ e)) ≡ structures =
+    skip_piece u (s ++ e) (is_u.held_is BGNSTR)
     ∙ are.add e
     ∙ ap (λ (ss : List Structure). structures ++ ss) (ap structures_in (sym (append-nil e)) ∙ skip_piece e [] (is_e.held_is BGNSTR))
     ∙ append-nil structures in
-    rw (is_text, are_units, has_name, has_units, has_structures) refl
+    rw (is_text, are_units, has_units, has_structures) refl
+
+pub library_is : (h b k l j r : List Item) (c1 c2 name : List ℕ) (library : Library) → Only HEADER (Some c1) h → Only BGNLIB (Some c2) b → Quiet k → Only LIBNAME (Some name) l → Quiet j → GivesContents name r library
+    → library ≡ library_of (h ++ (b ++ (k ++ (l ++ (j ++ r)))))
+unfolding library_of
+library_is h b k l j r c1 c2 name library is_h is_b no_k is_l no_j is =
+    let items : List Item = h ++ (b ++ (k ++ (l ++ (j ++ r)))) in
+    let has_name : held LIBNAME items ≡ Some name = simp (held-append, is_h.held_is, is_b.held_is, no_k.libname, is_l.held_is) refl in
+    let has_units : held UNITS items ≡ held UNITS r = simp (held-append, is_h.held_is, is_b.held_is, no_k.units, is_l.held_is, no_j.units) refl in
+    let has_structures : structures_in items ≡ structures_in r =
+    skip_piece h (b ++ (k ++ (l ++ (j ++ r)))) (is_h.held_is BGNSTR)
+    ∙ skip_piece b (k ++ (l ++ (j ++ r))) (is_b.held_is BGNSTR)
+    ∙ skip_piece k (l ++ (j ++ r)) no_k.bgnstr
+    ∙ skip_piece l (j ++ r) (is_l.held_is BGNSTR)
+    ∙ skip_piece j r no_j.bgnstr in
+    is ∙ rw (has_name, has_units, has_structures) refl

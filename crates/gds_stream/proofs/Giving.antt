@@ -27,6 +27,12 @@ pub fault_next : (r : Taken) (next : Cursor → Taken) (i : List Item) (d : Curs
 fault_next r next i d (At place cause) is then = ap (λ (x : Taken). then_read x next) is ∙ ap (after i) then
 fault_next r next i d OutOfMemory is then = tt
 
+-- one rule, and then what is given by the other
+pub then_gives : {A : Type 0} (a b : Grammar) (Later Whole : List Item → A → Type 0) (old mid new : Cursor) (items : List Item) (r : Result A StreamError) → read a old ≡ Ok (items, mid)
+    → ((more : List Item) (x : A) → Later more x → Whole (items ++ more) x) → Gives b Later mid new r → Gives (a ‣ b) Whole old new r
+then_gives a b Later Whole old mid new items (Ok x) first behind is = (items ++ is.0, ok_then _ _ _ _ _ _ first is.1, behind is.0 x is.2)
+then_gives a b Later Whole old mid new items (Err e) first behind is = fault_next _ _ _ _ e first is
+
 -- the fault in the place of one record
 pub fault_alone : (codes : List ℕ) (c : Cursor) (e : StreamError) → IsFault (take_one codes c) e → IsFault (alone (take_one codes c)) e
 fault_alone codes c (At place cause) is = ap alone is

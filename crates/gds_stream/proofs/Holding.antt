@@ -90,7 +90,7 @@ shapes_drawn (s ∷ shapes) n more others fits =
 -- ---- the structure
 
 -- records of which none closes are taken into the piece that is open
-inside : (opening : List ℕ) (closing : ℕ) (piece middle others : List Item) → AllByRecursion (λ i. eqb i.code closing ≡ false) middle
+pub inside : (opening : List ℕ) (closing : ℕ) (piece middle others : List Item) → AllByRecursion (λ i. eqb i.code closing ≡ false) middle
     → pieces_from opening closing (Some piece) (middle ++ others) ≡ pieces_from opening closing (Some (piece ++ middle)) others
 inside opening closing piece [] others open_still = ap (λ (p : List Item). pieces_from opening closing (Some p) others) (sym (append-nil piece))
 inside opening closing piece (i ∷ middle) others open_still =

@@ -86,3 +86,7 @@ not_held g code c d items is never = subst (Lacks code) is (lacks g code c never
 pub or_nothing : {A : Type 0} (a : Option A) → or_else a None ≡ a
 or_nothing None = refl
 or_nothing (Some x) = refl
+
+-- what records hold of a type that none behind them has
+pub same_held : (code : ℕ) (items more : List Item) → held code more ≡ None → held code (items ++ more) ≡ held code items
+same_held code items more none = held-append code items more ∙ ap (or_else (held code items)) none ∙ or_nothing (held code items)

@@ -9,7 +9,7 @@ use Rattle.gds_grammar.specs.Tests.{counted, readable, is_repeated}
 use Rattle.gds_grammar.specs.Reading.{Cursor, Fault, fault, behind, peek, accepted, take_one}
 use Rattle.gds_stream.specs.declared.error.StreamError.{StreamError}
 use Rattle.gds_stream.specs.declared.error.StreamError.TheVariants.{At, OutOfMemory}
-use Rattle.gds_stream.specs.Gives.{IsFault}
+use Rattle.gds_stream.specs.Gives.{IsFault, IsAccepted}
 
 -- no record is there
 pub take-no_record : (codes : List ℕ) (c : Cursor) (f : Fault) → peek c ≡ Err f → take_one codes c ≡ Err f
@@ -32,14 +32,14 @@ unfolding take_one
 take-unreadable codes c i is one counts unreadable = rw (is, one, counts, unreadable) refl
 
 -- a name that was there
-pub take-repeated : (codes : List ℕ) (c : Cursor) (i : Item) → peek c ≡ Ok i → is_in codes i.code ≡ true → counted c.kind i ≡ true → readable i ≡ true → is_repeated c.names i ≡ true → take_one codes c ≡ Err (fault c DuplicateName)
+pub take-repeated : (codes : List ℕ) (c : Cursor) (i : Item) → IsAccepted codes c i → is_repeated c.names i ≡ true → take_one codes c ≡ Err (fault c DuplicateName)
 unfolding take_one
-take-repeated codes c i is one counts reads repeated = rw (is, one, counts, reads, repeated) refl
+take-repeated codes c i is repeated = rw (is.next, is.of_type, is.counts, is.reads, repeated) refl
 
 -- no fault
-pub take-passes : (codes : List ℕ) (c : Cursor) (i : Item) → peek c ≡ Ok i → is_in codes i.code ≡ true → counted c.kind i ≡ true → readable i ≡ true → is_repeated c.names i ≡ false → take_one codes c ≡ Ok (i, behind c i)
+pub take-passes : (codes : List ℕ) (c : Cursor) (i : Item) → IsAccepted codes c i → is_repeated c.names i ≡ false → take_one codes c ≡ Ok (i, behind c i)
 unfolding take_one
-take-passes codes c i is one counts reads new = rw (is, one, counts, reads, new) refl
+take-passes codes c i is new = rw (is.next, is.of_type, is.counts, is.reads, new) refl
 
 -- what stands in the record's place
 pub fault_taken : (codes : List ℕ) (c : Cursor) (e : StreamError) → IsFault (peek c) e → IsFault (take_one codes c) e

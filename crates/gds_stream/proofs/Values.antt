@@ -1,7 +1,7 @@
 -- What the records of an element hold.
 use Rattle.std.proofs.Common.{◌≡◌, ℕ, ℤ, Bool, true, false, eqb, List, [], ◌∷◌, ◌++◌, take, drop, replicate, Option, Some, None, unwrap_or, Ok, refl, sym, subst, if◌then◌else◌}
 use Rattle.std.specs.Int.{w16, from_be_bytes}
-use Rattle.gds_records.specs.declared.types.TheConstants.{BOUNDARY, PATH, SREF, AREF, TEXT, LAYER, DATATYPE, WIDTH, XY, SNAME, COLROW, NODE, TEXTTYPE, PRESENTATION, STRING, STRANS, MAG, ANGLE, PATHTYPE, BOX, BOXTYPE, BGNEXTN, ENDEXTN}
+use Rattle.gds_records.specs.declared.types.TheConstants.{BOUNDARY, PATH, SREF, AREF, TEXT, LAYER, DATATYPE, WIDTH, XY, SNAME, COLROW, NODE, TEXTTYPE, STRING, STRANS, MAG, ANGLE, PATHTYPE, BOX, BOXTYPE, BGNEXTN, ENDEXTN}
 use Rattle.rt_base.specs.declared.plane.Point.{Point}
 use Rattle.gds_records.specs.Records.{Item}
 use Rattle.gds_grammar.specs.Grammar.{maybe}
@@ -13,6 +13,7 @@ use Rattle.gds_stream.specs.declared.library.Element.{Element}
 use Rattle.gds_stream.specs.declared.library.Element.TheVariants.{Boundary, Path, Sref, Aref, Label, BoxShape}
 use Rattle.gds_stream.specs.Contents.{held, two_bytes, four_bytes, points_in, first_of, real_one, place_in, element_of}
 use Rattle.gds_stream.specs.Gives.{IsOne, IsOneOrNone, IsShape}
+use Rattle.gds_stream.specs.Rests.{GivesOutline, HoldsPoints, GivesLine, GivesArray, GivesText}
 use Rattle.gds_stream.proofs.Lacking.{held-append, not_held, or_nothing}
 
 -- records that hold these data of the one type, and nothing of others
@@ -93,21 +94,33 @@ turn_not_there c d items is =
       string = never STRING c d items is refl;
     }
 
-pub boundary_is : (at offset : ℕ) (n m : ℤ) (points : List Point) (body layer datatype xy : List ℕ) (s h l d x : List Item)
-    → IsOne at BOUNDARY body s → Nothing h → Only LAYER (Some layer) l → Only DATATYPE (Some datatype) d → Only XY (Some xy) x
-    → offset ≡ at → n ≡ two_bytes layer → m ≡ two_bytes datatype → points ≡ points_in xy
-    → IsShape (s ++ (h ++ (l ++ (d ++ x)))) (Some (Boundary offset n m points))
-boundary_is at offset n m points body layer datatype xy s h l d x is_s no_h is_l is_d is_x is_offset is_n is_m are_points =
-    begun at BOUNDARY body s (h ++ (l ++ (d ++ x))) _ refl is_s
-    (λ form. simp (is_offset, is_n, is_m, are_points, held-append, no_h.layer, no_h.datatype, no_h.xy, is_l.held_is, is_d.held_is, is_x.held_is) refl)
+-- ---- elements, each behind its head, or behind what its rest is told
 
-pub path_is : (at offset : ℕ) (n m p2 w4 : ℤ) (points : List Point) (body layer datatype xy : List ℕ) (pathtype width begin end : Option (List ℕ)) (s h l d p w b e x : List Item)
-    → IsOne at PATH body s → Nothing h → Only LAYER (Some layer) l → Only DATATYPE (Some datatype) d → Only PATHTYPE pathtype p → Only WIDTH width w → Only BGNEXTN begin b → Only ENDEXTN end e → Only XY (Some xy) x
-    → offset ≡ at → n ≡ two_bytes layer → m ≡ two_bytes datatype → p2 ≡ two_bytes (unwrap_or pathtype (0 ∷ 0 ∷ [])) → w4 ≡ four_bytes (unwrap_or width (0 ∷ 0 ∷ 0 ∷ 0 ∷ [])) → points ≡ points_in xy
-    → IsShape (s ++ (h ++ (l ++ (d ++ (p ++ (w ++ (b ++ (e ++ x)))))))) (Some (Path offset n m p2 w4 points))
-path_is at offset n m p2 w4 points body layer datatype xy pathtype width begin end s h l d p w b e x is_s no_h is_l is_d is_p is_w is_b is_e is_x is_offset is_n is_m is_p2 is_w4 are_points =
-    begun at PATH body s (h ++ (l ++ (d ++ (p ++ (w ++ (b ++ (e ++ x))))))) _ refl is_s
-    (λ form. simp (is_offset, is_n, is_m, is_p2, is_w4, are_points, held-append, no_h.layer, no_h.datatype, no_h.pathtype, no_h.width, no_h.xy, is_l.held_is, is_d.held_is, is_p.held_is, is_w.held_is, is_b.held_is, is_e.held_is, is_x.held_is, or_nothing) refl)
+pub outline_is : (offset : ℕ) (n m : ℤ) (points : List Point) (layer datatype xy : List ℕ) (l d x : List Item)
+    → Only LAYER (Some layer) l → Only DATATYPE (Some datatype) d → Only XY (Some xy) x → n ≡ two_bytes layer → m ≡ two_bytes datatype → points ≡ points_in xy
+    → GivesOutline offset (l ++ (d ++ x)) (Some (Boundary offset n m points))
+outline_is offset n m points layer datatype xy l d x is_l is_d is_x is_n is_m are_points =
+    simp (is_n, is_m, are_points, held-append, is_l.held_is, is_d.held_is, is_x.held_is) refl
+
+pub boundary_is : (at offset : ℕ) (o : Option Element) (body : List ℕ) (s h r : List Item) → IsOne at BOUNDARY body s → Nothing h → offset ≡ at → GivesOutline offset r o → IsShape (s ++ (h ++ r)) o
+boundary_is at offset o body s h r is_s no_h is_offset is =
+    begun at BOUNDARY body s (h ++ r) o refl is_s (λ form. simp (is, is_offset, held-append, no_h.layer, no_h.datatype, no_h.xy) refl)
+
+pub points_are : (begin end : Option (List ℕ)) (xy : List ℕ) (b e x : List Item) → Only BGNEXTN begin b → Only ENDEXTN end e → Only XY (Some xy) x → HoldsPoints (b ++ (e ++ x)) xy
+points_are begin end xy b e x is_b is_e is_x = simp (held-append, is_b.held_is, is_e.held_is, is_x.held_is) refl
+
+pub line_is : (offset : ℕ) (n m p2 w4 : ℤ) (points : List Point) (layer datatype xy : List ℕ) (pathtype width : Option (List ℕ)) (p w x : List Item)
+    → Only PATHTYPE pathtype p → Only WIDTH width w → held PATHTYPE x ≡ None → held WIDTH x ≡ None → HoldsPoints x xy
+    → n ≡ two_bytes layer → m ≡ two_bytes datatype → p2 ≡ two_bytes (unwrap_or pathtype (0 ∷ 0 ∷ [])) → w4 ≡ four_bytes (unwrap_or width (0 ∷ 0 ∷ 0 ∷ 0 ∷ [])) → points ≡ points_in xy
+    → GivesLine offset layer datatype (p ++ (w ++ x)) (Some (Path offset n m p2 w4 points))
+line_is offset n m p2 w4 points layer datatype xy pathtype width p w x is_p is_w no_type no_width is_x is_n is_m is_p2 is_w4 are_points =
+    simp (is_n, is_m, is_p2, is_w4, are_points, held-append, is_p.held_is, is_w.held_is, no_type, no_width, is_x, or_nothing) refl
+
+pub path_is : (at offset : ℕ) (o : Option Element) (body layer datatype : List ℕ) (s h l d r : List Item) → IsOne at PATH body s → Nothing h → Only LAYER (Some layer) l → Only DATATYPE (Some datatype) d
+    → offset ≡ at → GivesLine offset layer datatype r o → IsShape (s ++ (h ++ (l ++ (d ++ r)))) o
+path_is at offset o body layer datatype s h l d r is_s no_h is_l is_d is_offset is =
+    begun at PATH body s (h ++ (l ++ (d ++ r))) o refl is_s
+    (λ form. simp (is, is_offset, held-append, no_h.layer, no_h.datatype, no_h.pathtype, no_h.width, no_h.xy, is_l.held_is, is_d.held_is) refl)
 
 pub sref_is : (at offset : ℕ) (text : List ℕ) (place : Place) (point : Point) (body name xy : List ℕ) (s h n t x : List Item)
     → IsOne at SREF body s → Nothing h → Only SNAME (Some name) n → NotThere t → Only XY (Some xy) x
@@ -117,21 +130,35 @@ sref_is at offset text place point body name xy s h n t x is_s no_h is_n no_t is
     begun at SREF body s (h ++ (n ++ (t ++ x))) _ refl is_s
     (λ form. simp (is_offset, is_text, sym is_place, is_point, held-append, no_h.sname, no_h.xy, no_h.strans, no_h.mag, no_h.angle, is_n.held_is, no_t.xy, is_x.held_is, or_nothing) refl)
 
-pub aref_is : (at offset : ℕ) (text : List ℕ) (place : Place) (columns rows : ℤ) (points : List Point) (body name counts xy : List ℕ) (s h n t c x : List Item)
-    → IsOne at AREF body s → Nothing h → Only SNAME (Some name) n → NotThere t → Only COLROW (Some counts) c → Only XY (Some xy) x
-    → offset ≡ at → text ≡ trim name → place_in t ≡ place → columns ≡ two_bytes (take 2 counts) → rows ≡ two_bytes (drop 2 counts) → points ≡ points_in xy
-    → IsShape (s ++ (h ++ (n ++ (t ++ (c ++ x))))) (Some (Aref offset text place columns rows points))
-aref_is at offset text place columns rows points body name counts xy s h n t c x is_s no_h is_n no_t is_c is_x is_offset is_text is_place are_columns are_rows are_points =
-    begun at AREF body s (h ++ (n ++ (t ++ (c ++ x)))) _ refl is_s
-    (λ form. simp (is_offset, is_text, sym is_place, are_columns, are_rows, are_points, held-append, no_h.sname, no_h.xy, no_h.colrow, no_h.strans, no_h.mag, no_h.angle, is_n.held_is, no_t.xy, no_t.colrow, is_c.held_is, is_x.held_is, or_nothing) refl)
+pub array_is : (offset : ℕ) (text : List ℕ) (place : Place) (columns rows : ℤ) (points : List Point) (name counts xy : List ℕ) (t c x : List Item)
+    → NotThere t → Only COLROW (Some counts) c → Only XY (Some xy) x
+    → text ≡ trim name → place_in t ≡ place → columns ≡ two_bytes (take 2 counts) → rows ≡ two_bytes (drop 2 counts) → points ≡ points_in xy
+    → GivesArray offset name (t ++ (c ++ x)) (Some (Aref offset text place columns rows points))
+array_is offset text place columns rows points name counts xy t c x no_t is_c is_x is_text is_place are_columns are_rows are_points =
+    simp (is_text, sym is_place, are_columns, are_rows, are_points, held-append, no_t.xy, no_t.colrow, is_c.held_is, is_x.held_is, or_nothing) refl
 
-pub label_is : (at offset : ℕ) (n m : ℤ) (point : Point) (text : List ℕ) (body layer texttype xy string : List ℕ) (shown pathtype width : Option (List ℕ)) (s h l y r p w t x g : List Item)
-    → IsOne at TEXT body s → Nothing h → Only LAYER (Some layer) l → Only TEXTTYPE (Some texttype) y → Only PRESENTATION shown r → Only PATHTYPE pathtype p → Only WIDTH width w → NotThere t → Only XY (Some xy) x → Only STRING (Some string) g
-    → offset ≡ at → n ≡ two_bytes layer → m ≡ two_bytes texttype → point ≡ first_of (points_in xy) → text ≡ trim string
-    → IsShape (s ++ (h ++ (l ++ (y ++ (r ++ (p ++ (w ++ (t ++ (x ++ g))))))))) (Some (Label offset n m point text))
-label_is at offset n m point text body layer texttype xy string shown pathtype width s h l y r p w t x g is_s no_h is_l is_y is_r is_p is_w no_t is_x is_g is_offset is_n is_m is_point is_text =
-    begun at TEXT body s (h ++ (l ++ (y ++ (r ++ (p ++ (w ++ (t ++ (x ++ g)))))))) _ refl is_s
-    (λ form. simp (is_offset, is_n, is_m, is_point, is_text, held-append, no_h.layer, no_h.texttype, no_h.xy, no_h.string, is_l.held_is, is_y.held_is, is_r.held_is, is_p.held_is, is_w.held_is, no_t.xy, no_t.string, is_x.held_is, is_g.held_is) refl)
+pub aref_is : (at offset : ℕ) (o : Option Element) (body name : List ℕ) (s h n r : List Item) → IsOne at AREF body s → Nothing h → Only SNAME (Some name) n → offset ≡ at → GivesArray offset name r o
+    → IsShape (s ++ (h ++ (n ++ r))) o
+aref_is at offset o body name s h n r is_s no_h is_n is_offset is =
+    begun at AREF body s (h ++ (n ++ r)) o refl is_s
+    (λ form. simp (is, is_offset, held-append, no_h.sname, no_h.xy, no_h.colrow, no_h.strans, no_h.mag, no_h.angle, is_n.held_is) refl)
+
+pub text_is : (offset : ℕ) (n m : ℤ) (point : Point) (text layer texttype xy string : List ℕ) (t x g : List Item) → NotThere t → Only XY (Some xy) x → Only STRING (Some string) g
+    → n ≡ two_bytes layer → m ≡ two_bytes texttype → point ≡ first_of (points_in xy) → text ≡ trim string
+    → GivesText offset layer texttype (t ++ (x ++ g)) (Some (Label offset n m point text))
+text_is offset n m point text layer texttype xy string t x g no_t is_x is_g is_n is_m is_point is_text =
+    simp (is_n, is_m, is_point, is_text, held-append, no_t.xy, no_t.string, is_x.held_is, is_g.held_is) refl
+
+-- records before it hold nothing of it
+pub text_behind : (offset : ℕ) (o : Option Element) (layer texttype : List ℕ) (items more : List Item) → held XY items ≡ None → held STRING items ≡ None
+    → GivesText offset layer texttype more o → GivesText offset layer texttype (items ++ more) o
+text_behind offset o layer texttype items more no_xy no_string is = simp (is, held-append, no_xy, no_string) refl
+
+pub label_is : (at offset : ℕ) (o : Option Element) (body layer texttype : List ℕ) (s h l y r : List Item) → IsOne at TEXT body s → Nothing h → Only LAYER (Some layer) l → Only TEXTTYPE (Some texttype) y
+    → offset ≡ at → GivesText offset layer texttype r o → IsShape (s ++ (h ++ (l ++ (y ++ r)))) o
+label_is at offset o body layer texttype s h l y r is_s no_h is_l is_y is_offset is =
+    begun at TEXT body s (h ++ (l ++ (y ++ r))) o refl is_s
+    (λ form. simp (is, is_offset, held-append, no_h.layer, no_h.texttype, no_h.xy, no_h.string, is_l.held_is, is_y.held_is) refl)
 
 pub node_is : (at : ℕ) (body : List ℕ) (s more : List Item) → IsOne at NODE body s → IsShape (s ++ more) None
 node_is at body s more is_s = begun at NODE body s more None refl is_s (λ form. refl)

@@ -10,6 +10,7 @@ use Rattle.gds_grammar.specs.Conditions.{is_in, starts, is_number, number_count,
 use Rattle.rt_base.specs.Text.{IsText}
 use Rattle.std.specs.Bool.{OnTrue}
 use Rattle.gds_records.specs.declared.types.TheConstants.{BGNSTR, ENDSTR, LIBNAME, STRNAME, SNAME, STRING, XY}
+use Rattle.gds_grammar.specs.Tests.{counted, readable}
 use Rattle.gds_grammar.specs.Reading.{Cursor, Fault, peek, take_one, read}
 use Rattle.gds_stream.specs.declared.error.StreamError.{StreamError}
 use Rattle.gds_stream.specs.declared.library.Element.{Element}
@@ -37,6 +38,18 @@ Sees codes c (Err e) = IsFault (peek c) e
 pub record IsWithin (p : Part) (c : Cursor) : Type 0 where
   pub next : p.next ≡ c.at + (4 + length p.body.now)
   pub room : 4 + length p.body.now ≤ length c.rest
+
+-- the record comes next, has one of these types, and is as it should be where it stands, but for its name
+pub record IsAccepted (codes : List ℕ) (c : Cursor) (i : Item) : Type 0 where
+  pub next : peek c ≡ Ok i
+  pub of_type : is_in codes i.code ≡ true
+  pub counts : counted c.kind i ≡ true
+  pub reads : readable i ≡ true
+
+-- such a record, or the fault in its place
+abbrev pub Accepts : List ℕ → Cursor → Result Part StreamError → Type 0
+Accepts codes c (Ok p) = IsAccepted codes c (item_at c.at p)
+Accepts codes c (Err e) = IsFault (take_one codes c) e
 
 -- a record of one of these types, read from the one place to the other
 abbrev pub Takes : List ℕ → Cursor → Cursor → Result Part StreamError → Type 0

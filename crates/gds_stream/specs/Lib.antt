@@ -1,4 +1,6 @@
+pub mod Elements
 pub mod Contents
 pub mod Written
 pub mod Gives
 pub mod Refusals
+pub mod Rests

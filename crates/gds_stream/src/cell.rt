@@ -1,3 +1,4 @@
+//! A cell that refers to no other, as it is handed to the writer.
 use rt_base::{List, Text};
 
 /// A cell that refers to no other: rectangles and texts.

@@ -1,3 +1,4 @@
+//! Why bytes give no library.
 ghost use Rattle.std.specs.Prelude.{◌≡◌};
 ghost use Rattle.gds_stream.specs.declared.error.StreamError.TheVariants.{OutOfMemory as no_memory};
 

@@ -5,6 +5,7 @@ mod cell;
 mod counting;
 mod data;
 mod error;
+mod laws;
 mod library;
 mod reader;
 mod reading;
@@ -15,9 +16,7 @@ mod writing;
 pub use cell::{Flat, Note, Shape};
 pub use error::StreamError;
 pub use gds_grammar::Cause;
+pub use laws::{no_library_stops, one_library};
 pub use library::{Element, Library, Place, Structure};
-pub use reading::{no_library_stops, one_library, read_stream};
+pub use reading::read_stream;
 pub use writing::write_stream;
-
-#[cfg(test)]
-mod tests;

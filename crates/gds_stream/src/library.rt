@@ -1,3 +1,7 @@
+//! What a stream holds.
+ghost use Rattle.std.specs.Prelude.{◌≡◌, Some, None, MatchOption};
+ghost use Rattle.gds_stream.specs.Elements.{offset_of, target_of};
+
 use rt_base::{List, Point, Text};
 
 /// How a reference turns and scales what it places, as the stream says it. (GDSII Release 6: STRANS, MAG and ANGLE.)
@@ -61,6 +65,32 @@ pub enum Element {
         layer: i16,
         boxtype: i16,
     },
+}
+
+impl Element {
+    /// The place of its first byte in the stream.
+    pub fn offset(&self) -> u64
+        ensures { result ≡ offset_of self.now }
+    {
+        match self {
+            Element::Boundary { offset, .. } => *offset,
+            Element::Path { offset, .. } => *offset,
+            Element::Sref { offset, .. } => *offset,
+            Element::Aref { offset, .. } => *offset,
+            Element::Label { offset, .. } => *offset,
+            Element::BoxShape { offset, .. } => *offset,
+        }
+    }
+
+    /// The name of the structure that it places, if it places one.
+    pub fn target(&self) -> Option<&Text>
+        ensures { MatchOption result (target_of self.now ≡ None) (λ n. target_of self.now ≡ Some n.now) }
+    {
+        match self {
+            Element::Sref { name, .. } | Element::Aref { name, .. } => Some(name),
+            _ => None,
+        }
+    }
 }
 
 /// A structure: its name, which isn't empty, and its elements in the stream's order.

@@ -1,3 +1,4 @@
+//! Where reading stands in some bytes, and how a record is looked at, taken and passed. It knows no element.
 ghost use Rattle.std.specs.Prelude.{◌≡◌, ◌+◌, ◌*◌, ◌^◌, ◌<◌, ◌≤◌, ◌&&◌, ◌==◌, ◌++◌, [], ◌∷◌, length, drop, true, false, IfOk, IfSome, OnOk, MatchBool, MatchOption, MatchResult, option_copied, All, if◌then◌else◌, Some, None};
 ghost use Rattle.std.specs.Bool.{OnTrue};
 ghost use Rattle.rt_base.specs.Text.{IsText};
@@ -11,39 +12,17 @@ ghost use Rattle.gds_grammar.specs.Conditions.{is_in, trim, is_number, form_of, 
 ghost use Rattle.gds_grammar.specs.Tests.{counted, readable, is_repeated};
 ghost use Rattle.gds_grammar.specs.Reading as reads;
 ghost use Rattle.gds_grammar.specs.Reading.{start, behind};
-ghost use Rattle.gds_stream.specs.Gives.{Peeks, Sees, Takes, IsWithin, Gives, IsOne, IsOneOrNone, Has, AreZeros, IsBehindZeros, IsOther};
+ghost use Rattle.gds_stream.specs.Gives.{Peeks, Sees, Accepts, Takes, IsWithin, Gives, IsOne, IsOneOrNone, Has, AreZeros, IsBehindZeros, IsOther};
 
 use crate::counting::{is_counted, is_readable};
 use crate::data::text_of;
 use crate::error::StreamError;
 use gds_grammar::Cause;
-use gds_records::{
-    AREF, ATTRTABLE, BOUNDARY, BOX, ENDMASKS, FONTS, FORMAT, GENERATIONS, LIBDIRSIZE, LIBSECUR,
-    MASK, NODE, PATH, PROPATTR, PROPVALUE, Part, REFLIBS, RecordError, SREF, SRFNAME, STRCLASS,
-    STRNAME, TEXT, next_record,
-};
+use gds_records::{PROPATTR, PROPVALUE, Part, RecordError, SKIPPED, STARTS, STRNAME, next_record};
 use indexmap::IndexSet;
 use rt_base::{OutOfMemory, Text};
 use std::alloc::Global;
 use std::marker::Model;
-
-/// The types that begin an element.
-pub const STARTS: [u8; 7] = [BOUNDARY, PATH, SREF, AREF, TEXT, NODE, BOX];
-
-// The types of records that are skipped.
-const SKIPPED: [u8; 11] = [
-    REFLIBS,
-    FONTS,
-    GENERATIONS,
-    ATTRTABLE,
-    STRCLASS,
-    FORMAT,
-    MASK,
-    ENDMASKS,
-    LIBDIRSIZE,
-    SRFNAME,
-    LIBSECUR,
-];
 
 /// Where reading stands in some bytes: the place of the next record, the element that began last, and the names of
 /// the structures before.
@@ -141,14 +120,11 @@ impl<'a> Reader<'a> {
         self.element
     }
 
-    /// A record of one of these types.
+    // The next record, where it has one of these types and is as it should be, but for its name.
     #[tactic(auto, using(crate::proofs::Taking::fault_taken))]
-    pub fn take_one(&mut self, codes: &[u8]) -> Result<Part<'a>, StreamError>
-        ensures takes { Takes codes.now self.old self.new result }
-        ensures kind { IfOk result (λ p. self.new.kind ≡ (if is_in starts p.code then Some p.code else self.old.kind)) }
-        ensures code { IfOk result (λ p. is_in codes.now p.code ≡ true) }
-        ensures counts { IfOk result (λ p. Counted self.old.kind (item_at self.old.at p)) }
-        ensures reads { IfOk result (λ p. Readable (item_at self.old.at p)) }
+    fn accepted(&self, codes: &[u8]) -> Result<Part<'a>, StreamError>
+        ensures accepts { Accepts codes.now self.now result }
+        ensures within { IfOk result (λ p. IsWithin p self.now) }
     {
         let part = self.peek()?;
         if !codes.contains(&part.code) {
@@ -160,6 +136,18 @@ impl<'a> Reader<'a> {
         if !is_readable(part.code, part.body) {
             return Err(self.fault(Cause::BadText));
         }
+        Ok(part)
+    }
+
+    /// A record of one of these types.
+    pub fn take_one(&mut self, codes: &[u8]) -> Result<Part<'a>, StreamError>
+        ensures takes { Takes codes.now self.old self.new result }
+        ensures kind { IfOk result (λ p. self.new.kind ≡ (if is_in starts p.code then Some p.code else self.old.kind)) }
+        ensures code { IfOk result (λ p. is_in codes.now p.code ≡ true) }
+        ensures counts { IfOk result (λ p. Counted self.old.kind (item_at self.old.at p)) }
+        ensures reads { IfOk result (λ p. Readable (item_at self.old.at p)) }
+    {
+        let part = self.accepted(codes)?;
         if !self.is_new(&part)? {
             return Err(self.fault(Cause::DuplicateName));
         }
@@ -279,9 +267,10 @@ impl<'a> Reader<'a> {
 fn kind_after(element: Option<u8>, code: u8) -> Option<u8>
     ensures { result ≡ (if is_in starts code then Some code else element) }
 {
-    match code {
-        BOUNDARY | PATH | SREF | AREF | TEXT | NODE | BOX => Some(code),
-        _ => element,
+    if STARTS.contains(&code) {
+        Some(code)
+    } else {
+        element
     }
 }
 

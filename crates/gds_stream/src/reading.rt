@@ -1,7 +1,5 @@
-ghost use Rattle.std.specs.Prelude.{◌≡◌, ℕ, List, IfOk, IfErr};
-ghost use Rattle.gds_grammar.specs.declared.cause.Cause.{Cause};
-ghost use Rattle.gds_grammar.specs.Stops.{Stops};
-ghost use Rattle.gds_stream.specs.declared.library.Library.{Library};
+//! A stream is read whole.
+ghost use Rattle.std.specs.Prelude.{IfOk, IfErr};
 ghost use Rattle.gds_stream.specs.Contents.{Stream};
 ghost use Rattle.gds_stream.specs.Refusals.{IsRefused};
 
@@ -23,13 +21,3 @@ pub fn read_stream(alloc: Global, bytes: &[u8]) -> Result<Library, StreamError>
     reader.zeros()?;
     Ok(library)
 }
-
-/// A law: bytes hold one library at most. (This project's own.)
-pub fn one_library()
-    ensures { (bytes : List ℕ) (a b : Library) → Stream bytes a → Stream bytes b → a ≡ b }
-{}
-
-/// A law: bytes that hold a library don't stop being a stream. (This project's own.)
-pub fn no_library_stops()
-    ensures { (bytes : List ℕ) (library : Library) (place : ℕ) (cause : Cause) → Stream bytes library → Stops bytes place cause → ⊥ }
-{}

@@ -1,9 +1,13 @@
-ghost use Rattle.std.specs.Prelude.{◌≡◌, List, Some, None, IfOk, OnOk};
+//! The seven elements, each as its records stand.
+ghost use Rattle.std.specs.Prelude.{◌≡◌, List, length, Some, None, IfOk, OnOk};
+ghost use Rattle.rt_base.specs.Text.{IsText};
 ghost use Rattle.gds_records.specs.Records.{Item};
 ghost use Rattle.gds_grammar.specs.Grammar as grammar;
 ghost use Rattle.gds_grammar.specs.Format as rules;
+ghost use Rattle.gds_grammar.specs.Conditions.{trim};
 ghost use Rattle.gds_stream.specs.Contents.{place_in};
 ghost use Rattle.gds_stream.specs.Gives.{Gives, IsShape, shape};
+ghost use Rattle.gds_stream.specs.Rests as rests;
 
 use crate::data::{
     i16_of, i16_or_zero, i32_or_zero, point_of, points_of, real_or, text_of, three_points, u16_of,
@@ -58,6 +62,14 @@ impl<'a> Reader<'a> {
         let offset = self.place();
         self.take(BOUNDARY)?;
         self.head()?;
+        self.outline(offset)
+    }
+
+    // A polygon from its layer on.
+    #[tactic(auto, using(crate::proofs::Giving::steps))]
+    fn outline(&mut self, offset: u64) -> Result<Option<Element>, StreamError>
+        ensures { Gives rests.outline (rests.GivesOutline offset) self.old self.new result }
+    {
         let layer = self.take(LAYER)?;
         let datatype = self.take(DATATYPE)?;
         let xy = self.take(XY)?;
@@ -79,11 +91,24 @@ impl<'a> Reader<'a> {
         self.head()?;
         let layer = self.take(LAYER)?;
         let datatype = self.take(DATATYPE)?;
+        self.path_line(offset, layer, datatype)
+    }
+
+    // A path from its type on, of this layer and data type.
+    #[tactic(auto, using(crate::proofs::Giving::steps))]
+    fn path_line(
+        &mut self,
+        offset: u64,
+        layer: &[u8],
+        datatype: &[u8],
+    ) -> Result<Option<Element>, StreamError>
+        requires layer { length layer.now ≡ 2 }
+        requires datatype { length datatype.now ≡ 2 }
+        ensures { Gives rests.path_line (rests.GivesLine offset layer.now datatype.now) self.old self.new result }
+    {
         let pathtype = self.maybe(PATHTYPE)?;
         let width = self.maybe(WIDTH)?;
-        self.maybe(BGNEXTN)?;
-        self.maybe(ENDEXTN)?;
-        let xy = self.take(XY)?;
+        let xy = self.path_points()?;
         Ok(Some(Element::Path {
             offset,
             layer: i16_of(layer),
@@ -92,6 +117,17 @@ impl<'a> Reader<'a> {
             width: i32_or_zero(width),
             points: points_of(self.alloc(), xy)?,
         }))
+    }
+
+    // A path's points, behind what it may say of how far its ends go on.
+    #[tactic(auto, using(crate::proofs::Giving::steps))]
+    fn path_points(&mut self) -> Result<&'a [u8], StreamError>
+        ensures { Gives rests.path_points (λ items body. rests.HoldsPoints items body.now) self.old self.new result }
+    {
+        self.maybe(BGNEXTN)?;
+        self.maybe(ENDEXTN)?;
+        let xy = self.take(XY)?;
+        Ok(xy)
     }
 
     // A structure that is placed once.
@@ -122,6 +158,16 @@ impl<'a> Reader<'a> {
         self.take(AREF)?;
         self.head()?;
         let name = self.take(SNAME)?;
+        self.array(offset, name)
+    }
+
+    // An array of the structure of this name, from how it is placed on.
+    #[tactic(auto, using(crate::proofs::Giving::steps))]
+    fn array(&mut self, offset: u64, name: &[u8]) -> Result<Option<Element>, StreamError>
+        requires name { IsText (trim name.now) }
+        requires kind { self.old.kind ≡ Some AREF }
+        ensures { Gives rests.array (rests.GivesArray offset name.now) self.old self.new result }
+    {
         let place = self.placing()?;
         let counts = self.take(COLROW)?;
         let xy = self.take(XY)?;
@@ -178,9 +224,39 @@ impl<'a> Reader<'a> {
         self.head()?;
         let layer = self.take(LAYER)?;
         let texttype = self.take(TEXTTYPE)?;
+        self.label_shown(offset, layer, texttype)
+    }
+
+    // A text of this layer and type, from how it is shown on.
+    #[tactic(auto, using(crate::proofs::Giving::steps))]
+    fn label_shown(
+        &mut self,
+        offset: u64,
+        layer: &[u8],
+        texttype: &[u8],
+    ) -> Result<Option<Element>, StreamError>
+        requires layer { length layer.now ≡ 2 }
+        requires texttype { length texttype.now ≡ 2 }
+        ensures { Gives rests.label_shown (rests.GivesText offset layer.now texttype.now) self.old self.new result }
+    {
         self.maybe(PRESENTATION)?;
         self.maybe(PATHTYPE)?;
         self.maybe(WIDTH)?;
+        self.label_text(offset, layer, texttype)
+    }
+
+    // A text of this layer and type, from how it is placed on.
+    #[tactic(auto, using(crate::proofs::Giving::steps))]
+    fn label_text(
+        &mut self,
+        offset: u64,
+        layer: &[u8],
+        texttype: &[u8],
+    ) -> Result<Option<Element>, StreamError>
+        requires layer { length layer.now ≡ 2 }
+        requires texttype { length texttype.now ≡ 2 }
+        ensures { Gives rests.label_text (rests.GivesText offset layer.now texttype.now) self.old self.new result }
+    {
         self.placing()?;
         let xy = self.take(XY)?;
         let text = self.take(STRING)?;

@@ -1,15 +1,19 @@
+//! The library of a stream, its structures and their elements in turn.
 ghost use Rattle.std.specs.Prelude.{◌≡◌, [], ◌∷◌, ◌++◌, List, Some, None, IfOk, OnOk, option_to_list};
+ghost use Rattle.rt_base.specs.Text.{IsText};
 ghost use Rattle.gds_records.specs.Records.{Item};
 ghost use Rattle.gds_grammar.specs.Grammar.{many};
 ghost use Rattle.gds_grammar.specs.Format as rules;
+ghost use Rattle.gds_grammar.specs.Conditions.{trim};
 ghost use Rattle.gds_stream.specs.Contents.{library_of};
 ghost use Rattle.gds_stream.specs.Gives.{Gives, AddsElement, AddElements, AddsStructure, AddStructures};
+ghost use Rattle.gds_stream.specs.Rests as rests;
 
 use crate::data::{text_of, units_of};
 use crate::error::StreamError;
 use crate::library::{Element, Library, Structure};
-use crate::reader::{Reader, STARTS};
-use gds_records::{BGNLIB, BGNSTR, ENDEL, ENDLIB, ENDSTR, HEADER, LIBNAME, STRNAME, UNITS};
+use crate::reader::Reader;
+use gds_records::{BGNLIB, BGNSTR, ENDEL, ENDLIB, ENDSTR, HEADER, LIBNAME, STARTS, STRNAME, UNITS};
 use rt_base::{List, OutOfMemory};
 
 impl<'a> Reader<'a> {
@@ -23,6 +27,15 @@ impl<'a> Reader<'a> {
         self.skip()?;
         let name = self.take(LIBNAME)?;
         self.skip()?;
+        self.contents(name)
+    }
+
+    // The library of this name, from its units on.
+    #[tactic(auto, using(crate::proofs::Giving::steps))]
+    fn contents(&mut self, name: &[u8]) -> Result<Library, StreamError>
+        requires { IsText (trim name.now) }
+        ensures { Gives rests.contents (rests.GivesContents name.now) self.old self.new result }
+    {
         let units = self.take(UNITS)?;
         let structures = self.structures()?;
         self.take(ENDLIB)?;

@@ -1,11 +1,7 @@
-use Rattle.std.proofs.Common.{ℕ, ◌<◌, List, get_or, All, Fits, w8}
 use Rattle.std.proofs.lemmas.List.{take_rest}
-use Rattle.std.proofs.lemmas.List.Elements.{All-from_get_or}
+use Rattle.gds_records.proofs.Bytes.{are_bytes}
 use Rattle.gds_records.proofs.Deciding.{part_holds, fault_holds}
 use Rattle.gds_records.proofs.reading.next_record.Goals as goal
-
-are_bytes : (bytes : List ℕ) → ((i : ℕ) → Fits w8 (get_or bytes i 0)) → All (λ b. b < 256) bytes
-are_bytes bytes fits = All-from_get_or (λ b. b < 256) bytes 0 (λ i below. (fits i).fits)
 
 pub returns-clause-part : goal.returns-clause-part
 returns-clause-part c =

@@ -1,11 +1,9 @@
-use Rattle.std.proofs.Common.{ap, ◌∙◌}
-use Rattle.std.specs.Int.{w16}
-use Rattle.std.proofs.lemmas.Int.{to_z-of_z}
-use Rattle.gds_grammar.specs.Format.{aref}
-use Rattle.gds_stream.proofs.Giving.{ok_then}
-use Rattle.gds_stream.proofs.Values.{one_only, head_nothing, turn_not_there, aref_is}
-use Rattle.gds_stream.specs.Contents.{two_bytes}
-use Rattle.gds_stream.proofs.Points.{tail_of}
+use Rattle.gds_records.specs.declared.types.TheConstants.{AREF, SNAME}
+use Rattle.gds_grammar.specs.Grammar.{type, ◌‣◌}
+use Rattle.gds_grammar.specs.Format.{aref, head}
+use Rattle.gds_stream.specs.Rests.{array}
+use Rattle.gds_stream.proofs.Giving.{then_gives}
+use Rattle.gds_stream.proofs.Values.{one_only, head_nothing, aref_is}
 use Rattle.gds_stream.proofs.reader.Reader.aref.Goals as goal
 
 pub returns : goal.returns
@@ -14,11 +12,8 @@ returns c =
     let s = c.in_ok-take.ensures.gives in
     let h = c.in_ok-head.ensures.gives in
     let n = c.in_ok-name.ensures.gives in
-    let t = c.in_ok-place.ensures.gives in
-    let k = c.in_ok-counts.ensures.gives in
-    let x = c.in_ok-xy.ensures.gives in (
-      _,
-      ok_then _ _ _ _ _ _ s.1 (ok_then _ _ _ _ _ _ h.1 (ok_then _ _ _ _ _ _ n.1 (ok_then _ _ _ _ _ _ t.1 (ok_then _ _ _ _ _ _ k.1 x.1)))),
-      aref_is _ _ _ _ _ _ _ _ _ _ _ s.0 h.0 n.0 t.0 k.0 x.0 s.2 (head_nothing _ _ _ h.1) (one_only _ _ _ _ n.2) (turn_not_there _ _ _ t.1) (one_only _ _ _ _ k.2) (one_only _ _ _ _ x.2)
-          c.place-offset.ensures c.in_ok-text_of.ensures t.2 (to_z-of_z w16 c.i16_of.result c.i16_of.ensures.fits ∙ c.i16_of.ensures.value) (to_z-of_z w16 c.i16_of-2.result c.i16_of-2.ensures.fits ∙ c.i16_of-2.ensures.value ∙ ap two_bytes (tail_of c.in_ok-counts.counts.now 2)) c.three_points.ensures,
-    )
+    then_gives (type AREF) (head ‣ type SNAME ‣ array) _ _ _ _ _ s.0 c.array.result s.1 (λ more o is. is)
+    (then_gives head (type SNAME ‣ array) _ _ _ _ _ h.0 c.array.result h.1 (λ more o is. is)
+    (then_gives (type SNAME) array _ _ _ _ _ n.0 c.array.result n.1
+    (λ more o is. aref_is _ _ o _ _ s.0 h.0 n.0 more s.2 (head_nothing _ _ _ h.1) (one_only _ _ _ _ n.2) c.place-offset.ensures is)
+    c.array.ensures))

@@ -1,9 +1,9 @@
-use Rattle.std.proofs.Common.{◌∙◌}
-use Rattle.std.specs.Int.{w16, w32}
-use Rattle.std.proofs.lemmas.Int.{to_z-of_z}
-use Rattle.gds_grammar.specs.Format.{path}
-use Rattle.gds_stream.proofs.Giving.{ok_then}
-use Rattle.gds_stream.proofs.Values.{one_only, maybe_only, head_nothing, path_is}
+use Rattle.gds_records.specs.declared.types.TheConstants.{PATH, LAYER, DATATYPE}
+use Rattle.gds_grammar.specs.Grammar.{type, ◌‣◌}
+use Rattle.gds_grammar.specs.Format.{path, head}
+use Rattle.gds_stream.specs.Rests.{path_line}
+use Rattle.gds_stream.proofs.Giving.{then_gives}
+use Rattle.gds_stream.proofs.Values.{one_only, head_nothing, path_is}
 use Rattle.gds_stream.proofs.reader.Reader.path.Goals as goal
 
 pub returns : goal.returns
@@ -13,13 +13,9 @@ returns c =
     let h = c.in_ok-head.ensures.gives in
     let l = c.in_ok-layer.ensures.gives in
     let d = c.in_ok-datatype.ensures.gives in
-    let p = c.in_ok-pathtype.ensures.gives in
-    let w = c.in_ok-width.ensures.gives in
-    let b = c.in_ok-maybe.ensures.gives in
-    let e = c.in_ok-maybe-2.ensures.gives in
-    let x = c.in_ok-xy.ensures.gives in (
-      _,
-      ok_then _ _ _ _ _ _ s.1 (ok_then _ _ _ _ _ _ h.1 (ok_then _ _ _ _ _ _ l.1 (ok_then _ _ _ _ _ _ d.1 (ok_then _ _ _ _ _ _ p.1 (ok_then _ _ _ _ _ _ w.1 (ok_then _ _ _ _ _ _ b.1 (ok_then _ _ _ _ _ _ e.1 x.1))))))),
-      path_is _ _ _ _ _ _ _ _ _ _ _ _ _ _ _ s.0 h.0 l.0 d.0 p.0 w.0 b.0 e.0 x.0 s.2 (head_nothing _ _ _ h.1) (one_only _ _ _ _ l.2) (one_only _ _ _ _ d.2) (maybe_only _ _ _ _ p.2) (maybe_only _ _ _ _ w.2) (maybe_only _ _ _ _ b.2) (maybe_only _ _ _ _ e.2) (one_only _ _ _ _ x.2)
-          c.place-offset.ensures (to_z-of_z w16 c.i16_of.result c.i16_of.ensures.fits ∙ c.i16_of.ensures.value) (to_z-of_z w16 c.i16_of-2.result c.i16_of-2.ensures.fits ∙ c.i16_of-2.ensures.value) (to_z-of_z w16 c.i16_or_zero.result c.i16_or_zero.ensures.fits ∙ c.i16_or_zero.ensures.value) (to_z-of_z w32 c.i32_or_zero.result c.i32_or_zero.ensures.fits ∙ c.i32_or_zero.ensures.value) c.in_ok-points_of.ensures,
-    )
+    then_gives (type PATH) (head ‣ type LAYER ‣ type DATATYPE ‣ path_line) _ _ _ _ _ s.0 c.path_line.result s.1 (λ more o is. is)
+    (then_gives head (type LAYER ‣ type DATATYPE ‣ path_line) _ _ _ _ _ h.0 c.path_line.result h.1 (λ more o is. is)
+    (then_gives (type LAYER) (type DATATYPE ‣ path_line) _ _ _ _ _ l.0 c.path_line.result l.1 (λ more o is. is)
+    (then_gives (type DATATYPE) path_line _ _ _ _ _ d.0 c.path_line.result d.1
+    (λ more o is. path_is _ _ o _ _ _ s.0 h.0 l.0 d.0 more s.2 (head_nothing _ _ _ h.1) (one_only _ _ _ _ l.2) (one_only _ _ _ _ d.2) c.place-offset.ensures is)
+    c.path_line.ensures)))

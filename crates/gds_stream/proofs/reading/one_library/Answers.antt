@@ -1,5 +1,0 @@
-use Rattle.gds_stream.proofs.Telling.{one_library}
-use Rattle.gds_stream.proofs.reading.one_library.Goals as goal
-
-pub returns : goal.returns
-returns c = one_library
