@@ -67,7 +67,7 @@ pairs_follow P R xs h to i j d below inside =
     earlier R xs i j d below inside (to (take j xs) (get_or xs j d) (follow_at P xs h j d inside))
 
 -- entries that are numbered by what they are called are called differently
-pub called_apart : {A : Type 0} (P : List A → A → Type 0) (name : A → List ℕ) (number : List ℕ → Option ℕ) (xs : List A) → Follows P [] xs
+pub called_apart : {A B : Type 0} (P : List A → A → Type 0) (name : A → B) (number : B → Option ℕ) (xs : List A) → Follows P [] xs
     → ((before : List A) (x : A) → P before x → number (name x) ≡ Some (length before)) → AllPairs (λ a b. name a ≡ name b → ⊥) xs
 called_apart P name number xs h to i j d below inside same =
     let first = to (take i xs) (get_or xs i d) (follow_at P xs h i d (omega arith)) in

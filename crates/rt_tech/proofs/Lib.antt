@@ -1,2 +1,4 @@
+pub mod Demanded
 pub mod Lengths
 pub mod Measured
+pub mod Tests

@@ -1,3 +1,4 @@
+pub mod Demands
 pub mod Rules
 pub mod Tech
 pub mod Words

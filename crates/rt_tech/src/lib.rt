@@ -2,6 +2,7 @@
 //! devices, and how a rule is broken.
 #![tactic(auto)]
 
+mod laws;
 pub mod limits;
 mod numbers;
 mod pairs;
@@ -9,6 +10,10 @@ mod rules;
 mod sizes;
 mod table;
 
+pub use laws::{
+    cuts_are_enclosed, cuts_are_kept_from_gate, kinds_are_parted, lowers_are_kept_apart,
+    none_is_of_two_kinds,
+};
 pub use numbers::{space_of, width_of};
 pub use pairs::{is_ignored, same_pair};
 pub use rules::{RuleError, RuleName};
