@@ -1,6 +1,4 @@
 //! Slabs of polygons, rectangles of paths, and where steps move rectangles.
-ghost use Rattle.std.specs.Prelude.{◌<◌};
-
 use gds_slabs::{
     PathEnd, Step, is_closed, is_path_width, is_slanted, moved_rect, path_count, path_rects,
     slab_count, slabs,
@@ -142,7 +140,7 @@ static PATHS: [(&str, Corners, i32, PathEnd, Sides); 5] = [
 ];
 
 // Reflected or not, the quarters, and what the rectangle (1, 2, 4, 3) becomes, shifted by (100, 10).
-static STEPS: [(bool, u8, (i64, i64, i64, i64)); 8] = [
+const STEPS: [(bool, u8, (i64, i64, i64, i64)); 8] = [
     (false, 0, (101, 12, 104, 13)),
     (false, 1, (97, 11, 98, 14)),
     (false, 2, (96, 7, 99, 8)),
@@ -228,28 +226,17 @@ fn paths_become_their_segments_and_squares(rt: HostRuntime) -> Result<(), Fail> 
     Ok(())
 }
 
-// Where RECT goes by a turn and the shift.
-fn moved(reflect: bool, quarters: u8) -> (i64, i64, i64, i64)
-    requires { quarters < 4 }
-{
-    let step = Step {
-        orient: Orient { reflect, quarters },
-        dx: 100,
-        dy: 10,
-    };
-    let r = moved_rect(&step, &RECT);
-    (r.x1, r.y1, r.x2, r.y2)
-}
-
 #[test]
 fn steps_reflect_then_turn_then_shift(rt: HostRuntime) {
-    for (reflect, quarters, want) in &STEPS {
-        assert!(rt; *quarters < 4);
-        assert_eq!(rt;
-            moved(*reflect, *quarters),
-            *want,
-            "at {reflect}, {quarters}"
-        );
+    for (reflect, quarters, want) in STEPS {
+        assert!(rt; quarters < 4);
+        let step = Step {
+            orient: Orient { reflect, quarters },
+            dx: 100,
+            dy: 10,
+        };
+        let r = moved_rect(&step, &RECT);
+        assert_eq!(rt; (r.x1, r.y1, r.x2, r.y2), want, "at {reflect}, {quarters}");
     }
 }
 

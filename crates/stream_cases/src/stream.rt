@@ -745,7 +745,9 @@ static WRONG_STREAMS: &[Row] = &[
     (&[HEADER, BGNLIB, LIBNAME, REFLIBS], 46, ENDLIB),
 ];
 
-fn unexpected(front: usize, offset: u16, code: u8) -> Option<(u64, Cause)> {
+fn unexpected(front: usize, offset: u16, code: u8) -> Option<(u64, Cause)>
+    requires { front ≤ 170 }
+{
     Some((front as u64 + offset as u64, Cause::Unexpected { code }))
 }
 
