@@ -5,8 +5,6 @@ mod answer;
 mod fetching;
 mod running;
 mod saying;
-#[cfg(test)]
-mod tests;
 mod words;
 
 pub use running::{Status, run};
