@@ -1,5 +1,5 @@
--- What a desk means, and what its three calls answer.
-use Rattle.std.specs.Prelude.{◌≡◌, ◌≢◌, ℕ, ◌+◌, ◌-◌, ◌^◌, ◌<◌, ◌≤◌, min, ◌⊎◌, List, ◌++◌, length, take, Option, Some, None, Result, Ok, Err, Vec, IfSome, IsSomeAnd, MatchOption, option_map}
+-- What a desk shows of the outside, and what its three calls answer.
+use Rattle.std.specs.Prelude.{◌≡◌, ◌≢◌, ℕ, ◌+◌, ◌-◌, ◌^◌, ◌<◌, ◌≤◌, min, ◌⊎◌, List, ◌++◌, length, take, Option, Some, None, Result, Ok, Err, Vec, IsSome, IfSome, IsSomeAnd, MatchOption, option_map}
 use Rattle.std.specs.declared.alloc.Global.{Global}
 use Rattle.rt_desk.specs.declared.outside.DeskError.{DeskError}
 use Rattle.rt_desk.specs.declared.outside.DeskError.TheVariants.{Failed, Missing, TooLong, OutOfMemory}
@@ -7,6 +7,15 @@ use Rattle.rt_desk.specs.declared.outside.DeskError.TheVariants.{Failed, Missing
 -- the bytes of each name, which is a list of bytes too; None where no file has that name
 abbrev pub Files : Type 0
 Files = List ℕ → Option (List ℕ)
+
+-- the outside at one moment, as a desk shows it: the bytes of each name and all bytes said so far, where the desk tells
+-- them, and how many fetches, stores and says it counts as faults
+pub record Outside : Type 0 where
+  pub files : Option Files
+  pub said : Option (List ℕ)
+  pub fetch_faults : ℕ
+  pub store_faults : ℕ
+  pub say_faults : ℕ
 
 -- a count of faults rose in a call: it is greater after than before, or stands at its type's end
 abbrev pub Rose : ℕ → ℕ → Type 0
@@ -30,13 +39,26 @@ abbrev pub IsOverLong : Option Files → ℕ → ℕ → List ℕ → ℕ → Ty
 IsOverLong files old new name most =
     MatchOption files (Rose old new) (λ fs. IsSomeAnd (fs name) (λ bytes. most < length bytes))
 
--- what `fetch` answers, of the files before, its count of faults before and after, the name and the most bytes
-abbrev pub FetchAnswer : Option Files → ℕ → ℕ → List ℕ → ℕ → Result (Vec ℕ Global) DeskError → Type 0
-FetchAnswer files old new name most (Ok bytes) = IsFetched files name most bytes.items
-FetchAnswer files old new name most (Err Failed) = Rose old new
-FetchAnswer files old new name most (Err Missing) = IsAbsent files name
-FetchAnswer files old new name most (Err TooLong) = IsOverLong files old new name most
-FetchAnswer files old new name most (Err OutOfMemory) = Unit {0}
+-- what `fetch` answers, of the outside before and after, the name and the most bytes
+abbrev pub FetchAnswer : Outside → Outside → List ℕ → ℕ → Result (Vec ℕ Global) DeskError → Type 0
+FetchAnswer old new name most (Ok bytes) = IsFetched old.files name most bytes.items
+FetchAnswer old new name most (Err Failed) = Rose old.fetch_faults new.fetch_faults
+FetchAnswer old new name most (Err Missing) = IsAbsent old.files name
+FetchAnswer old new name most (Err TooLong) = IsOverLong old.files old.fetch_faults new.fetch_faults name most
+FetchAnswer old new name most (Err OutOfMemory) = Unit {0}
+
+-- all of the outside is as it was, but for the count of fetches that were faults, which is no less
+pub record OnlyFetches (old new : Outside) : Type 0 where
+  pub files : new.files ≡ old.files
+  pub said : new.said ≡ old.said
+  pub fetch_faults : old.fetch_faults ≤ new.fetch_faults
+  pub store_faults : new.store_faults ≡ old.store_faults
+  pub say_faults : new.say_faults ≡ old.say_faults
+
+-- a fetch: its answer, and what stays
+pub record Fetches (old new : Outside) (name : List ℕ) (most : ℕ) (result : Result (Vec ℕ Global) DeskError) : Type 0 where
+  pub answer : FetchAnswer old new name most result
+  pub stays : OnlyFetches old new
 
 -- every name but this one has the bytes that it had
 abbrev pub OthersStay : Files → Files → List ℕ → Type 0
@@ -52,41 +74,70 @@ abbrev pub IsStored : Option Files → Option Files → List ℕ → List ℕ �
 IsStored old new name bytes =
     MatchOption old (new ≡ None) (λ fs. IsSomeAnd new (λ gs. Stored fs gs name bytes))
 
--- files are told after exactly where they were before, and then only this name's file may differ
+-- no other name's file differs, and this one's is there still where it was
+pub record IsChangedAt (fs gs : Files) (name : List ℕ) : Type 0 where
+  pub others : OthersStay fs gs name
+  pub there : IsSome (fs name) → IsSome (gs name)
+
+-- files are told after exactly where they were before, and then only this name's file may differ, which is not gone
 abbrev pub ChangesOnly : Option Files → Option Files → List ℕ → Type 0
-ChangesOnly old new name = MatchOption old (new ≡ None) (λ fs. IsSomeAnd new (λ gs. OthersStay fs gs name))
+ChangesOnly old new name = MatchOption old (new ≡ None) (λ fs. IsSomeAnd new (λ gs. IsChangedAt fs gs name))
 
 -- a store that failed: its count of faults rose, and only the named file may differ
-pub record IsFailedStore (old new : Option Files) (faults faults_after : ℕ) (name : List ℕ) : Type 0 where
-  pub rose : Rose faults faults_after
-  pub changed : ChangesOnly old new name
+pub record IsFailedStore (old new : Outside) (name : List ℕ) : Type 0 where
+  pub rose : Rose old.store_faults new.store_faults
+  pub changed : ChangesOnly old.files new.files name
 
--- what `store` answers, of the files and its count of faults before and after, the name and the bytes
-abbrev pub StoreAnswer : Option Files → Option Files → ℕ → ℕ → List ℕ → List ℕ → Result (Unit {0}) DeskError → Type 0
-StoreAnswer old new faults faults_after name bytes (Ok _) = IsStored old new name bytes
-StoreAnswer old new faults faults_after name bytes (Err Failed) = IsFailedStore old new faults faults_after name
-StoreAnswer old new faults faults_after name bytes (Err Missing) = ⊥
-StoreAnswer old new faults faults_after name bytes (Err TooLong) = ⊥
-StoreAnswer old new faults faults_after name bytes (Err OutOfMemory) = new ≡ old
+-- what `store` answers, of the outside before and after, the name and the bytes
+abbrev pub StoreAnswer : Outside → Outside → List ℕ → List ℕ → Result (Unit {0}) DeskError → Type 0
+StoreAnswer old new name bytes (Ok _) = IsStored old.files new.files name bytes
+StoreAnswer old new name bytes (Err Failed) = IsFailedStore old new name
+StoreAnswer old new name bytes (Err Missing) = ⊥
+StoreAnswer old new name bytes (Err TooLong) = ⊥
+StoreAnswer old new name bytes (Err OutOfMemory) = new.files ≡ old.files
+
+-- all of the outside is as it was, but for the files and the count of stores that were faults, which is no less
+pub record OnlyStores (old new : Outside) : Type 0 where
+  pub said : new.said ≡ old.said
+  pub fetch_faults : new.fetch_faults ≡ old.fetch_faults
+  pub store_faults : old.store_faults ≤ new.store_faults
+  pub say_faults : new.say_faults ≡ old.say_faults
+
+-- a store: its answer, and what stays
+pub record Stores (old new : Outside) (name bytes : List ℕ) (result : Result (Unit {0}) DeskError) : Type 0 where
+  pub answer : StoreAnswer old new name bytes result
+  pub stays : OnlyStores old new
 
 -- what was said has these bytes more at its end, where it is told
-abbrev pub IsSaid : Option (List ℕ) → Option (List ℕ) → List ℕ → Type 0
-IsSaid old new bytes = new ≡ option_map (λ before. before ++ bytes) old
+abbrev pub IsSaid : Outside → Outside → List ℕ → Type 0
+IsSaid old new bytes = new.said ≡ option_map (λ before. before ++ bytes) old.said
 
 -- what was said has the first `count` of these bytes more at its end, where it is told
-pub record IsSaidInPart (old new : Option (List ℕ)) (bytes : List ℕ) (count : ℕ) : Type 0 where
+pub record IsSaidInPart (old new : Outside) (bytes : List ℕ) (count : ℕ) : Type 0 where
   pub within : count ≤ length bytes
   pub prefix : IsSaid old new (take count bytes)
 
 -- a say that failed: its count of faults rose, and a prefix of the bytes was said
-pub record IsFailedSay (old new : Option (List ℕ)) (faults faults_after : ℕ) (bytes : List ℕ) : Type 0 where
-  pub rose : Rose faults faults_after
+pub record IsFailedSay (old new : Outside) (bytes : List ℕ) : Type 0 where
+  pub rose : Rose old.say_faults new.say_faults
   pub said : (count : ℕ) × IsSaidInPart old new bytes count
 
--- what `say` answers, of what was said and its count of faults before and after, and the bytes
-abbrev pub SayAnswer : Option (List ℕ) → Option (List ℕ) → ℕ → ℕ → List ℕ → Result (Unit {0}) DeskError → Type 0
-SayAnswer old new faults faults_after bytes (Ok _) = IsSaid old new bytes
-SayAnswer old new faults faults_after bytes (Err Failed) = IsFailedSay old new faults faults_after bytes
-SayAnswer old new faults faults_after bytes (Err Missing) = ⊥
-SayAnswer old new faults faults_after bytes (Err TooLong) = ⊥
-SayAnswer old new faults faults_after bytes (Err OutOfMemory) = new ≡ old
+-- what `say` answers, of the outside before and after, and the bytes
+abbrev pub SayAnswer : Outside → Outside → List ℕ → Result (Unit {0}) DeskError → Type 0
+SayAnswer old new bytes (Ok _) = IsSaid old new bytes
+SayAnswer old new bytes (Err Failed) = IsFailedSay old new bytes
+SayAnswer old new bytes (Err Missing) = ⊥
+SayAnswer old new bytes (Err TooLong) = ⊥
+SayAnswer old new bytes (Err OutOfMemory) = new.said ≡ old.said
+
+-- all of the outside is as it was, but for what was said and the count of says that were faults, which is no less
+pub record OnlySays (old new : Outside) : Type 0 where
+  pub files : new.files ≡ old.files
+  pub fetch_faults : new.fetch_faults ≡ old.fetch_faults
+  pub store_faults : new.store_faults ≡ old.store_faults
+  pub say_faults : old.say_faults ≤ new.say_faults
+
+-- a say: its answer, and what stays
+pub record Says (old new : Outside) (bytes : List ℕ) (result : Result (Unit {0}) DeskError) : Type 0 where
+  pub answer : SayAnswer old new bytes result
+  pub stays : OnlySays old new

@@ -1,9 +1,9 @@
 -- What a desk in memory shows: its files, what was said, its plan, and what it counts.
-use Rattle.std.specs.Prelude.{◌≡◌, ℕ, List, [], Contains, Result, Ok, Err}
+use Rattle.std.specs.Prelude.{◌≡◌, ℕ, List, [], Some, Contains, Result, Ok, Err}
 use Rattle.rt_desk.specs.declared.in_memory.MemoryDesk.{MemoryDesk}
 use Rattle.rt_desk.specs.declared.outside.DeskError.{DeskError}
 use Rattle.rt_desk.specs.declared.outside.DeskError.TheVariants.{Failed, Missing, TooLong, OutOfMemory}
-use Rattle.rt_desk.specs.Desk.{Files, raised}
+use Rattle.rt_desk.specs.Desk.{Files, Outside, raised}
 use Rattle.rt_desk.specs.Entries.{Entry, file_in}
 
 -- the bytes of each name
@@ -33,6 +33,16 @@ store_faults_of desk = desk.store_faults
 -- how many says were faults
 abbrev pub say_faults_of : MemoryDesk → ℕ
 say_faults_of desk = desk.say_faults
+
+-- the outside as the desk shows it: it always tells its files and what was said
+abbrev pub seen_of : MemoryDesk → Outside
+seen_of desk = record {
+  files = Some (files_of desk);
+  said = Some (said_of desk);
+  fetch_faults = fetch_faults_of desk;
+  store_faults = store_faults_of desk;
+  say_faults = say_faults_of desk;
+}
 
 -- the next call is planned to fail
 abbrev pub IsPlanned : MemoryDesk → Type 0

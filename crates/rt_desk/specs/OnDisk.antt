@@ -1,10 +1,10 @@
 -- What a desk over real files answers and counts.
-use Rattle.std.specs.Prelude.{◌≡◌, ℕ, ◌<◌, ◌≤◌, List, length, Option, IfSome, Result, Ok, Err, Vec}
+use Rattle.std.specs.Prelude.{◌≡◌, ℕ, ◌<◌, ◌≤◌, List, length, Option, None, IfSome, Result, Ok, Err, Vec}
 use Rattle.std.specs.declared.alloc.Global.{Global}
 use Rattle.rt_desk.specs.declared.on_disk.FileDesk.{FileDesk}
 use Rattle.rt_desk.specs.declared.outside.DeskError.{DeskError}
 use Rattle.rt_desk.specs.declared.outside.DeskError.TheVariants.{Failed, Missing, TooLong, OutOfMemory}
-use Rattle.rt_desk.specs.Desk.{raised}
+use Rattle.rt_desk.specs.Desk.{Outside, raised}
 
 -- bytes that are at most `most`, and all that a reader had left, where that is known
 pub record IsWhole (left : Option (List ℕ)) (most : ℕ) (bytes : List ℕ) : Type 0 where
@@ -42,3 +42,13 @@ store_faults_at desk = desk.store_faults
 -- how many says were faults
 abbrev pub say_faults_at : {R : Type 0} → FileDesk R → ℕ
 say_faults_at desk = desk.say_faults
+
+-- the outside as the desk shows it: it tells neither its files nor what was said
+abbrev pub seen_at : {R : Type 0} → FileDesk R → Outside
+seen_at desk = record {
+  files = None;
+  said = None;
+  fetch_faults = fetch_faults_at desk;
+  store_faults = store_faults_at desk;
+  say_faults = say_faults_at desk;
+}

@@ -1,10 +1,11 @@
-// A desk in memory, whose calls fail as a test plans.
-ghost use Rattle.std.specs.Prelude.{◌≡◌, ◌≤◌, ◌↔◌, Some, [], ◌∷◌, ◌++◌, IsTrue, IsErrOf, OnOk, OnErr, option_copied, position};
-ghost use Rattle.rt_desk.specs.Desk.{FetchAnswer, StoreAnswer, SayAnswer, Stored, raised};
+//! A desk in memory, whose calls fail as a test plans.
+ghost use Rattle.std.specs.Prelude.{◌≡◌, ◌↔◌, [], ◌∷◌, ◌++◌, IsTrue, IsErrOf, OnOk, OnErr, option_copied, position};
+ghost use Rattle.rt_desk.specs.Desk.{Fetches, Stores, Says, Stored, raised};
 ghost use Rattle.rt_desk.specs.Entries.{is_named, file_in, NamesDiffer};
-ghost use Rattle.rt_desk.specs.Memory.{files_of, said_of, plan_of, fetch_faults_of, store_faults_of, say_faults_of, IsPlanned, CountsCall, CountsFailed, IsNew, SameButPlan};
+ghost use Rattle.rt_desk.specs.Memory.{seen_of, files_of, said_of, plan_of, fetch_faults_of, store_faults_of, say_faults_of, IsPlanned, CountsCall, CountsFailed, IsNew, SameButPlan};
 
 use crate::outside::{Desk, DeskError};
+use rt_base::OutOfMemory;
 use std::alloc::{AllocError, Global};
 
 /// A desk in memory. It always tells its files and what was said.
@@ -99,7 +100,7 @@ impl MemoryDesk {
 
     /// Plans that the call of number `nth` fails; the first call of the desk is number 0, whichever it is.
     /// The error is that there was no memory for the plan, which is then as before.
-    pub fn fail_at(&mut self, nth: u64) -> Result<(), AllocError>
+    pub fn fail_at(&mut self, nth: u64) -> Result<(), OutOfMemory>
         ensures ok { OnOk result (plan_of self.new ≡ plan_of self.old ++ nth ∷ []) }
         ensures err { OnErr result (plan_of self.new ≡ plan_of self.old) }
         ensures rest { SameButPlan self.old self.new }
@@ -134,15 +135,7 @@ impl MemoryDesk {
 }
 
 impl Desk for MemoryDesk {
-    ghost files = { λ desk. Some (files_of desk) };
-
-    ghost said = { λ desk. Some (said_of desk) };
-
-    ghost fetch_faults = { fetch_faults_of };
-
-    ghost store_faults = { store_faults_of };
-
-    ghost say_faults = { say_faults_of };
+    ghost seen = { seen_of };
 
     /// As `Desk::fetch`. It fails exactly where the call is planned to, and then counts a fault.
     fn fetch(&mut self, alloc: Global, name: &str, most: u64) -> Result<Vec<u8>, DeskError>
@@ -151,12 +144,7 @@ impl Desk for MemoryDesk {
         ensures fault { CountsFailed (fetch_faults_of self.old) (fetch_faults_of self.new) result }
 
         // the trait's
-        ensures answer { FetchAnswer (Some (files_of self.old)) (fetch_faults_of self.old) (fetch_faults_of self.new) name.now most result }
-        ensures files_stay { Some (files_of self.new) ≡ Some (files_of self.old) }
-        ensures said_stay { Some (said_of self.new) ≡ Some (said_of self.old) }
-        ensures count { fetch_faults_of self.old ≤ fetch_faults_of self.new }
-        ensures store_count { store_faults_of self.new ≡ store_faults_of self.old }
-        ensures say_count { say_faults_of self.new ≡ say_faults_of self.old }
+        ensures fetches { Fetches (seen_of self.old) (seen_of self.new) name.now most result }
     {
         if self.begin_call() {
             self.fetch_faults = self.fetch_faults.saturating_add(1);
@@ -180,11 +168,7 @@ impl Desk for MemoryDesk {
         ensures err { OnErr result (files_of self.new ≡ files_of self.old) }
 
         // the trait's
-        ensures answer { StoreAnswer (Some (files_of self.old)) (Some (files_of self.new)) (store_faults_of self.old) (store_faults_of self.new) name.now bytes.now result }
-        ensures said_stay { Some (said_of self.new) ≡ Some (said_of self.old) }
-        ensures count { store_faults_of self.old ≤ store_faults_of self.new }
-        ensures fetch_count { fetch_faults_of self.new ≡ fetch_faults_of self.old }
-        ensures say_count { say_faults_of self.new ≡ say_faults_of self.old }
+        ensures stores { Stores (seen_of self.old) (seen_of self.new) name.now bytes.now result }
     {
         if self.begin_call() {
             self.store_faults = self.store_faults.saturating_add(1);
@@ -203,91 +187,13 @@ impl Desk for MemoryDesk {
         ensures err { OnErr result (said_of self.new ≡ said_of self.old) }
 
         // the trait's
-        ensures answer { SayAnswer (Some (said_of self.old)) (Some (said_of self.new)) (say_faults_of self.old) (say_faults_of self.new) bytes.now result }
-        ensures files_stay { Some (files_of self.new) ≡ Some (files_of self.old) }
-        ensures count { say_faults_of self.old ≤ say_faults_of self.new }
-        ensures fetch_count { fetch_faults_of self.new ≡ fetch_faults_of self.old }
-        ensures store_count { store_faults_of self.new ≡ store_faults_of self.old }
+        ensures says { Says (seen_of self.old) (seen_of self.new) bytes.now result }
     {
         if self.begin_call() {
             self.say_faults = self.say_faults.saturating_add(1);
             return Err(DeskError::Failed);
         }
         self.said.extend_from_slice(bytes)?;
-        Ok(())
-    }
-}
-
-#[cfg(test)]
-mod tests {
-    use super::*;
-    use std::test::Fail;
-
-    #[derive(Drop)]
-    enum Call<'a> {
-        Fetch(&'a str, u64),
-        Store(&'a str, &'a [u8]),
-        Say(&'a [u8]),
-    }
-
-    // The answer, with no bytes where the call gives none.
-    fn answer<D: Desk>(desk: &mut D, alloc: Global, call: &Call<'_>) -> Result<Vec<u8>, DeskError> {
-        match call {
-            Call::Fetch(name, most) => desk.fetch(alloc, name, *most),
-            Call::Store(name, bytes) => {
-                desk.store(name, bytes)?;
-                Ok(Vec::new(alloc))
-            }
-            Call::Say(bytes) => {
-                desk.say(bytes)?;
-                Ok(Vec::new(alloc))
-            }
-        }
-    }
-
-    fn named(alloc: Global, name: &str, bytes: &[u8]) -> Result<(String, Vec<u8>), AllocError> {
-        let owned = String::from_str(alloc, name)?;
-        Ok((owned, Vec::from_slice(alloc, bytes)?))
-    }
-
-    #[test]
-    fn answers_and_fails_as_planned(rt: HostRuntime) -> Result<(), Fail> {
-        let alloc = rt.alloc();
-        let mut files = Vec::new(alloc);
-        files.push(named(alloc, "a", b"twice")?)?;
-        files.push(named(alloc, "a", b"hi")?)?;
-        assert!(rt; !names_differ(&files));
-        files.remove(0);
-        assert!(rt; names_differ(&files));
-        let mut desk = MemoryDesk::new(alloc, files);
-        for nth in [6, 7, 8] {
-            desk.fail_at(nth)?;
-        }
-        let calls: [(Call<'_>, Result<&[u8], DeskError>); 12] = [
-            (Call::Fetch("a", 2), Ok(b"hi")),
-            (Call::Fetch("a", 1), Err(DeskError::TooLong)),
-            (Call::Fetch("b", 9), Err(DeskError::Missing)),
-            (Call::Store("b", b"new"), Ok(b"")),
-            (Call::Fetch("b", 3), Ok(b"new")),
-            (Call::Store("a", b""), Ok(b"")),
-            (Call::Fetch("a", 9), Err(DeskError::Failed)),
-            (Call::Store("a", b"x"), Err(DeskError::Failed)),
-            (Call::Say(b"y"), Err(DeskError::Failed)),
-            (Call::Say(b"one"), Ok(b"")),
-            (Call::Say(b"two"), Ok(b"")),
-            (Call::Fetch("a", 0), Ok(b"")),
-        ];
-        for (call, want) in &calls {
-            match (answer(&mut desk, alloc, call), want) {
-                (Ok(bytes), Ok(wanted)) => assert_eq!(rt; bytes.as_slice(), *wanted),
-                (Ok(_), Err(_)) => assert!(rt; false, "answered where an error was wanted"),
-                (Err(error), Ok(_)) => assert!(rt; false, "{error}"),
-                (Err(error), Err(wanted)) => assert_eq!(rt; error, *wanted),
-            }
-        }
-        assert_eq!(rt; desk.said(), b"onetwo".as_slice());
-        assert_eq!(rt; desk.file("b").ok_or("b")?, b"new".as_slice());
-        assert!(rt; desk.file("c").is_none());
         Ok(())
     }
 }

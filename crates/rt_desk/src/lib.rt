@@ -7,5 +7,5 @@ mod on_disk;
 mod outside;
 
 pub use in_memory::{MemoryDesk, names_differ};
-pub use on_disk::FileDesk;
+pub use on_disk::{FileDesk, RefusedStore};
 pub use outside::{Desk, DeskError};

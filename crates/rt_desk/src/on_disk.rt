@@ -1,9 +1,8 @@
-// A desk over the files and the standard output of the program.
-ghost use Rattle.std.specs.Prelude.{◌≡◌, ◌≤◌, None, OnOk, IfErr};
+//! A desk over the files and the standard output of the program.
+ghost use Rattle.std.specs.Prelude.{◌≡◌, None, OnOk};
 ghost use Rattle.std.specs.Io.KnownBytes.{Appends};
-ghost use Rattle.rt_desk.specs.Cause.{IsOfSystem};
-ghost use Rattle.rt_desk.specs.Desk.{FetchAnswer, StoreAnswer, SayAnswer};
-ghost use Rattle.rt_desk.specs.OnDisk.{IsRead, faults_after, CountsErrors, fetch_faults_at, store_faults_at, say_faults_at};
+ghost use Rattle.rt_desk.specs.Desk.{Fetches, Stores, Says};
+ghost use Rattle.rt_desk.specs.OnDisk.{IsRead, faults_after, CountsErrors, seen_at, fetch_faults_at, store_faults_at, say_faults_at};
 
 use crate::outside::{Desk, DeskError};
 use std::alloc::Global;
@@ -25,6 +24,17 @@ pub struct FileDesk<'a, R> {
     fetch_faults: u64,
     store_faults: u64,
     say_faults: u64,
+    refused: Option<RefusedStore>,
+}
+
+/// The last store of a `FileDesk` that failed: which file, and why. No clause speaks of it; it is for a line that a person
+/// reads.
+#[derive(Drop)]
+pub struct RefusedStore {
+    /// The name of the file; None where there was no memory to keep it.
+    pub name: Option<String>,
+    /// What the system answered.
+    pub kind: ErrorKind,
 }
 
 // How many bytes are asked of a file at a time.
@@ -36,20 +46,32 @@ const PATH_LIMIT: usize = 4096;
 // What is put behind the name of a file for the name of the new one that is to take its place.
 const ENDING: &[u8] = b".part";
 
+// How many names are tried for the new file. Each behind the first has a point and the two digits of its number more.
+const TRIES: u8 = 100;
+
+// How many bytes that point and the digits are.
+const NUMBER_LENGTH: usize = 3;
+
 impl<'a, R: Files + Print> FileDesk<'a, R> {
     /// A desk over the files and the standard output of `rt`, which has counted no fault. It takes no
     /// memory.
     pub fn new(rt: &'a R) -> FileDesk<'a, R>
-        ensures fetches { fetch_faults_at result ≡ 0 }
-        ensures stores { store_faults_at result ≡ 0 }
-        ensures says { say_faults_at result ≡ 0 }
+        ensures fetch_faults { fetch_faults_at result ≡ 0 }
+        ensures store_faults { store_faults_at result ≡ 0 }
+        ensures say_faults { say_faults_at result ≡ 0 }
     {
         FileDesk {
             rt,
             fetch_faults: 0,
             store_faults: 0,
             say_faults: 0,
+            refused: None,
         }
+    }
+
+    /// The last store that failed, or None where none did.
+    pub fn refused_store(&self) -> Option<&RefusedStore> {
+        self.refused.as_ref()
     }
 }
 
@@ -91,9 +113,8 @@ fn read_within<F: Read>(file: &mut F, alloc: Global, most: u64) -> Result<Vec<u8
 
 // Writes all the bytes. To take none of a piece that isn't empty is a failure, and a write that a signal
 // interrupts is tried again.
-fn write_whole<W: Write>(to: &mut W, bytes: &[u8]) -> Result<(), DeskError>
-    ensures ok { OnOk result (Appends (W.contents to.old) (W.contents to.new) bytes.now) }
-    ensures err { IfErr result IsOfSystem }
+fn write_whole<W: Write>(to: &mut W, bytes: &[u8]) -> io::Result<()>
+    ensures { OnOk result (Appends (W.contents to.old) (W.contents to.new) bytes.now) }
 {
     let mut rest = bytes;
     for _ in 0..u64::MAX {
@@ -102,16 +123,16 @@ fn write_whole<W: Write>(to: &mut W, bytes: &[u8]) -> Result<(), DeskError>
             return Ok(());
         }
         match to.write(rest) {
-            Ok(0) => return Err(DeskError::Failed),
+            Ok(0) => return Err(io::Error::from(ErrorKind::WriteZero)),
             Ok(count) => rest = &rest[count..],
             Err(error) => {
                 if error.kind() != ErrorKind::Interrupted {
-                    return Err(DeskError::from(error));
+                    return Err(error);
                 }
             }
         }
     }
-    Err(DeskError::Failed)
+    Err(io::Error::from(ErrorKind::Other))
 }
 
 // Opens a file and reads it to its end.
@@ -124,15 +145,9 @@ fn read_file<R: Files>(rt: &R, alloc: Global, name: &str, most: u64) -> Result<V
 
 // Makes the bytes the whole file. A plain file that is there is replaced by a new one beside it, so that it stays as
 // it was where that fails. What isn't there, and a link or a device, is written as it stands.
-fn store_file<R: Files>(rt: &R, name: &str, bytes: &[u8]) -> Result<(), DeskError>
-    ensures { IfErr result IsOfSystem }
-{
-    let mut room = [0u8; PATH_LIMIT];
+fn store_file<R: Files>(rt: &R, name: &str, bytes: &[u8]) -> io::Result<()> {
     match permissions_of(rt, name) {
-        Some(permissions) => match name_beside(&mut room, name) {
-            Some(beside) => replace_file(rt, name, beside, permissions, bytes),
-            None => Err(DeskError::Failed),
-        },
+        Some(permissions) => replace_file(rt, name, permissions, bytes),
         None => write_file(rt, name, bytes),
     }
 }
@@ -145,35 +160,55 @@ fn permissions_of<R: Files>(rt: &R, name: &str) -> Option<Permissions> {
     }
 }
 
-// The name with the ending of a file that is to take its place.
-fn name_beside<'a>(room: &'a mut [u8; PATH_LIMIT], name: &str) -> Option<&'a str> {
-    let length = name.len();
-    if PATH_LIMIT - ENDING.len() < length {
-        return None;
-    }
-    room[..length].copy_from_slice(name.as_bytes());
-    room[length..length + ENDING.len()].copy_from_slice(ENDING);
-    str::from_utf8(&room[..length + ENDING.len()]).ok()
-}
-
 // Writes a new file beside the old one and moves it into its place. An old file that may not be written isn't
-// replaced either. A file that stands beside it already is left as it is, and is a failure.
+// replaced either. The new file's name is the first of TRIES that is free: a file that stands there already, as one that
+// a killed run left, is left as it is.
 fn replace_file<R: Files>(
     rt: &R,
     name: &str,
-    beside: &str,
     permissions: Permissions,
     bytes: &[u8],
-) -> Result<(), DeskError>
-    ensures { IfErr result IsOfSystem }
-{
+) -> io::Result<()> {
     OpenOptions::new().write(true).open(rt, name)?;
-    let mut file = File::create_new(rt, beside)?;
-    let result = fill_and_move(rt, &mut file, name, beside, permissions, bytes);
-    if result.is_err() {
-        let _ = fs::remove_file(rt, beside);
+    for nth in 0..TRIES {
+        let mut room = [0u8; PATH_LIMIT];
+        let Some(beside) = name_beside(&mut room, name, nth) else {
+            return Err(io::Error::from(ErrorKind::InvalidFilename));
+        };
+        match File::create_new(rt, beside) {
+            Ok(mut file) => {
+                let result = fill_and_move(rt, &mut file, name, beside, permissions, bytes);
+                if result.is_err() {
+                    let _ = fs::remove_file(rt, beside);
+                }
+                return result;
+            }
+            Err(error) => {
+                if error.kind() != ErrorKind::AlreadyExists {
+                    return Err(error);
+                }
+            }
+        }
     }
-    result
+    Err(io::Error::from(ErrorKind::AlreadyExists))
+}
+
+// The name of the new file: of the first one the old file's name with the ending, as `OUT.part`, and of the others that
+// with their number, as `OUT.part.01`. None where it is longer than a path can be.
+fn name_beside<'a>(room: &'a mut [u8; PATH_LIMIT], name: &str, nth: u8) -> Option<&'a str> {
+    if PATH_LIMIT - ENDING.len() - NUMBER_LENGTH < name.len() {
+        return None;
+    }
+    let start = name.len();
+    let end = start + ENDING.len();
+    room[..start].copy_from_slice(name.as_bytes());
+    room[start..end].copy_from_slice(ENDING);
+    if nth == 0 {
+        return str::from_utf8(&room[..end]).ok();
+    }
+    let number = [b'.', b'0' + nth / 10, b'0' + nth % 10];
+    room[end..end + NUMBER_LENGTH].copy_from_slice(&number);
+    str::from_utf8(&room[..end + NUMBER_LENGTH]).ok()
 }
 
 // Writes the new file, with the old one's permissions, and moves it into the old one's place.
@@ -184,43 +219,27 @@ fn fill_and_move<R: Files>(
     beside: &str,
     permissions: Permissions,
     bytes: &[u8],
-) -> Result<(), DeskError>
-    ensures { IfErr result IsOfSystem }
-{
+) -> io::Result<()> {
     write_whole(file, bytes)?;
     fs::set_permissions(rt, beside, permissions)?;
-    fs::rename(rt, beside, name)?;
-    Ok(())
+    fs::rename(rt, beside, name)
 }
 
 // Makes or empties a file and writes it.
-fn write_file<R: Files>(rt: &R, name: &str, bytes: &[u8]) -> Result<(), DeskError>
-    ensures { IfErr result IsOfSystem }
-{
+fn write_file<R: Files>(rt: &R, name: &str, bytes: &[u8]) -> io::Result<()> {
     let mut file = fs::create(rt, name)?;
     write_whole(&mut file, bytes)
 }
 
-impl<'a, R: Files + Print> Desk for FileDesk<'a, R> {
-    ghost files = { λ _. None };
-
-    ghost said = { λ _. None };
-
-    ghost fetch_faults = { fetch_faults_at };
-
-    ghost store_faults = { store_faults_at };
-
-    ghost say_faults = { say_faults_at };
+impl<'a, R: Files + Print + AllocGlobal> Desk for FileDesk<'a, R> {
+    ghost seen = { seen_at };
 
     /// As `Desk::fetch`. A file that isn't there is `Failed`, and each error but want of memory is counted.
     fn fetch(&mut self, alloc: Global, name: &str, most: u64) -> Result<Vec<u8>, DeskError>
         ensures counted { CountsErrors (fetch_faults_at self.old) (fetch_faults_at self.new) result }
 
         // the trait's
-        ensures answer { FetchAnswer None (fetch_faults_at self.old) (fetch_faults_at self.new) name.now most result }
-        ensures count { fetch_faults_at self.old ≤ fetch_faults_at self.new }
-        ensures store_count { store_faults_at self.new ≡ store_faults_at self.old }
-        ensures say_count { say_faults_at self.new ≡ say_faults_at self.old }
+        ensures fetches { Fetches (seen_at self.old) (seen_at self.new) name.now most result }
     {
         let result = read_file(self.rt, alloc, name, most);
         if let Err(error) = &result {
@@ -230,22 +249,26 @@ impl<'a, R: Files + Print> Desk for FileDesk<'a, R> {
     }
 
     /// As `Desk::store`. A plain file that is there is replaced by a new one with its permissions, which is written
-    /// beside it under the name with `.part` at the end; so it stays as it was where that fails. Each error but want
-    /// of memory is counted.
+    /// beside it under the name with `.part` at the end, or, where that is taken, with `.part.01` to `.part.99`; so it
+    /// stays as it was where that fails. It overwrites no other file, and leaves none of its own. Each error but want of
+    /// memory is counted, and the last one is kept for `refused_store`.
     fn store(&mut self, name: &str, bytes: &[u8]) -> Result<(), DeskError>
         ensures counted { CountsErrors (store_faults_at self.old) (store_faults_at self.new) result }
 
         // the trait's
-        ensures answer { StoreAnswer None None (store_faults_at self.old) (store_faults_at self.new) name.now bytes.now result }
-        ensures count { store_faults_at self.old ≤ store_faults_at self.new }
-        ensures fetch_count { fetch_faults_at self.new ≡ fetch_faults_at self.old }
-        ensures say_count { say_faults_at self.new ≡ say_faults_at self.old }
+        ensures stores { Stores (seen_at self.old) (seen_at self.new) name.now bytes.now result }
     {
-        let result = store_file(self.rt, name, bytes);
-        if let Err(error) = &result {
-            self.store_faults = counted(self.store_faults, *error);
+        match store_file(self.rt, name, bytes) {
+            Ok(()) => Ok(()),
+            Err(error) => {
+                let kind = error.kind();
+                let cause = DeskError::from(error);
+                self.store_faults = counted(self.store_faults, cause);
+                let name = String::from_str(self.rt.alloc(), name).ok();
+                self.refused = Some(RefusedStore { name, kind });
+                Err(cause)
+            }
         }
-        result
     }
 
     /// As `Desk::say`. Each error but want of memory is counted.
@@ -253,64 +276,15 @@ impl<'a, R: Files + Print> Desk for FileDesk<'a, R> {
         ensures counted { CountsErrors (say_faults_at self.old) (say_faults_at self.new) result }
 
         // the trait's
-        ensures answer { SayAnswer None None (say_faults_at self.old) (say_faults_at self.new) bytes.now result }
-        ensures count { say_faults_at self.old ≤ say_faults_at self.new }
-        ensures fetch_count { fetch_faults_at self.new ≡ fetch_faults_at self.old }
-        ensures store_count { store_faults_at self.new ≡ store_faults_at self.old }
+        ensures says { Says (seen_at self.old) (seen_at self.new) bytes.now result }
     {
-        let result = write_whole(&mut io::writer(self.rt), bytes);
-        if let Err(error) = &result {
-            self.say_faults = counted(self.say_faults, *error);
+        match write_whole(&mut io::writer(self.rt), bytes) {
+            Ok(()) => Ok(()),
+            Err(error) => {
+                let cause = DeskError::from(error);
+                self.say_faults = counted(self.say_faults, cause);
+                Err(cause)
+            }
         }
-        result
-    }
-}
-
-#[cfg(test)]
-mod tests {
-    use super::*;
-    use std::test::Fail;
-
-    // Whether an empty file stays as it was where its new one can't be written beside it, since another file has that
-    // name, and whether that one stays too.
-    fn keeps_what_it_cannot_replace<R: Files + Print>(
-        rt: &R,
-        alloc: Global,
-        desk: &mut FileDesk<'_, R>,
-        name: &str,
-    ) -> Result<bool, Fail> {
-        let beside = "rt_desk_reads_what_it_wrote.bin.part";
-        let free = desk.fetch(alloc, beside, 10).is_err();
-        desk.store(beside, b"taken")?;
-        let refused = desk.store(name, b"new") == Err(DeskError::Failed);
-        let old = desk.fetch(alloc, name, 10)?;
-        let taken = desk.fetch(alloc, beside, 10)?;
-        fs::remove_file(rt, beside)?;
-        Ok(free && refused && old.is_empty() && taken.as_slice() == b"taken".as_slice())
-    }
-
-    #[test]
-    fn reads_what_it_wrote(rt: HostRuntime) -> Result<(), Fail> {
-        let alloc = rt.alloc();
-        let name = "rt_desk_reads_what_it_wrote.bin";
-        let bytes = Vec::from_elem(alloc, 7u8, 2 * PIECE + 1)?;
-        let mut desk = FileDesk::new(&rt);
-        match desk.fetch(alloc, name, 10) {
-            Ok(_) => assert!(rt; false, "the file was there before the test"),
-            Err(error) => assert_eq!(rt; error, DeskError::Failed),
-        }
-        desk.store(name, &bytes)?;
-        let read = desk.fetch(alloc, name, bytes.len() as u64)?;
-        assert_eq!(rt; read.as_slice(), bytes.as_slice());
-        match desk.fetch(alloc, name, bytes.len() as u64 - 1) {
-            Ok(_) => assert!(rt; false, "more bytes than were allowed"),
-            Err(error) => assert_eq!(rt; error, DeskError::TooLong),
-        }
-        desk.store(name, b"")?;
-        assert!(rt; desk.fetch(alloc, name, 0)?.is_empty());
-        assert!(rt; keeps_what_it_cannot_replace(&rt, alloc, &mut desk, name)?);
-        desk.say(b"said\n")?;
-        fs::remove_file(&rt, name)?;
-        Ok(())
     }
 }

@@ -1,13 +1,13 @@
-ghost use Rattle.std.specs.Prelude.{◌≡◌, ◌≤◌};
-ghost use Rattle.rt_desk.specs.Desk.{SayAnswer};
-ghost use Rattle.rt_lines.specs.Saying.{piece_text, text_of, SaysLine};
+//! The pieces of a line, and how they are said one after another.
+ghost use Rattle.rt_desk.specs.Desk.{Says};
+ghost use Rattle.rt_lines.specs.Said.{piece_text, text_of, SaysLine};
 
 use itoa::Buffer;
 use rt_base::Text;
 use rt_desk::{Desk, DeskError};
 
 /// A piece of a line.
-#[derive(Clone, Copy, Debug, Drop)]
+#[derive(Drop)]
 pub enum Piece<'a> {
     /// Words of the program.
     Word(&'a str),
@@ -27,11 +27,7 @@ pub enum Piece<'a> {
 /// `Failed` comes only where the desk's count of faults of `say` rose, and `OutOfMemory` where the desk had no memory for
 /// a piece; then a first part of the text was said. There is no other error.
 pub fn say_pieces<D: Desk>(desk: &mut D, pieces: &[Piece<'_>]) -> Result<(), DeskError>
-    ensures line { SaysLine (D.said desk.old) (D.said desk.new) (D.say_faults desk.old) (D.say_faults desk.new) (text_of pieces.now) result }
-    ensures files_stay { D.files desk.new ≡ D.files desk.old }
-    ensures count { D.say_faults desk.old ≤ D.say_faults desk.new }
-    ensures fetch_count { D.fetch_faults desk.new ≡ D.fetch_faults desk.old }
-    ensures store_count { D.store_faults desk.new ≡ D.store_faults desk.old }
+    ensures { SaysLine (D.seen desk.old) (D.seen desk.new) (text_of pieces.now) result }
 {
     for piece in pieces {
         say_piece(desk, piece)?;
@@ -41,11 +37,7 @@ pub fn say_pieces<D: Desk>(desk: &mut D, pieces: &[Piece<'_>]) -> Result<(), Des
 
 // Says the piece in one call.
 fn say_piece<D: Desk>(desk: &mut D, piece: &Piece<'_>) -> Result<(), DeskError>
-    ensures answer { SayAnswer (D.said desk.old) (D.said desk.new) (D.say_faults desk.old) (D.say_faults desk.new) (piece_text piece.now) result }
-    ensures files_stay { D.files desk.new ≡ D.files desk.old }
-    ensures count { D.say_faults desk.old ≤ D.say_faults desk.new }
-    ensures fetch_count { D.fetch_faults desk.new ≡ D.fetch_faults desk.old }
-    ensures store_count { D.store_faults desk.new ≡ D.store_faults desk.old }
+    ensures { Says (D.seen desk.old) (D.seen desk.new) (piece_text piece.now) result }
 {
     let mut digits = Buffer::new();
     match piece {

@@ -1,6 +1,6 @@
-ghost use Rattle.std.specs.Prelude.{◌≡◌, ◌≤◌};
+//! The lines on the source: its stream, its flattening, and the rules that it breaks.
 ghost use Rattle.std.specs.List.{flat_map};
-ghost use Rattle.rt_lines.specs.Saying.{SaysLine};
+ghost use Rattle.rt_lines.specs.Said.{SaysLine};
 ghost use Rattle.rt_lines.specs.Lines.{bad_stream_line, unsupported_line, no_such_structure_line, named, cyclic_line, unmapped_layer_line, array_step_line, coordinate_range_line, too_deep_line, source_rule_line, too_many_items_line};
 
 use crate::pieces::{Piece, say_pieces};
@@ -12,7 +12,7 @@ use rt_tech::RuleName;
 
 /// A rule of the source's table that its layout breaks, and between which cells. Lengths are database units of the
 /// source.
-#[derive(Clone, Copy, Debug, Drop)]
+#[derive(Drop)]
 pub struct BrokenRule<'a> {
     /// The rule.
     pub rule: RuleName,
@@ -31,11 +31,7 @@ pub struct BrokenRule<'a> {
 /// Says `bad stream at OFFSET: CAUSE`: the bytes stop being a stream at the offset, counted in bytes from 0. Errors
 /// are those of `say_pieces`.
 pub fn say_bad_stream<D: Desk>(desk: &mut D, offset: u64, cause: &Cause) -> Result<(), DeskError>
-    ensures line { SaysLine (D.said desk.old) (D.said desk.new) (D.say_faults desk.old) (D.say_faults desk.new) (bad_stream_line offset cause.now) result }
-    ensures files_stay { D.files desk.new ≡ D.files desk.old }
-    ensures count { D.say_faults desk.old ≤ D.say_faults desk.new }
-    ensures fetch_count { D.fetch_faults desk.new ≡ D.fetch_faults desk.old }
-    ensures store_count { D.store_faults desk.new ≡ D.store_faults desk.old }
+    ensures { SaysLine (D.seen desk.old) (D.seen desk.new) (bad_stream_line offset cause.now) result }
 {
     say_pieces(
         desk,
@@ -52,11 +48,7 @@ pub fn say_bad_stream<D: Desk>(desk: &mut D, offset: u64, cause: &Cause) -> Resu
 /// Says `unsupported at OFFSET: ODD`: the element at the offset isn't taken, for what the word says. Errors are those
 /// of `say_pieces`.
 pub fn say_unsupported<D: Desk>(desk: &mut D, offset: u64, odd: &str) -> Result<(), DeskError>
-    ensures line { SaysLine (D.said desk.old) (D.said desk.new) (D.say_faults desk.old) (D.say_faults desk.new) (unsupported_line offset odd.now) result }
-    ensures files_stay { D.files desk.new ≡ D.files desk.old }
-    ensures count { D.say_faults desk.old ≤ D.say_faults desk.new }
-    ensures fetch_count { D.fetch_faults desk.new ≡ D.fetch_faults desk.old }
-    ensures store_count { D.store_faults desk.new ≡ D.store_faults desk.old }
+    ensures { SaysLine (D.seen desk.old) (D.seen desk.new) (unsupported_line offset odd.now) result }
 {
     say_pieces(
         desk,
@@ -72,11 +64,7 @@ pub fn say_unsupported<D: Desk>(desk: &mut D, offset: u64, odd: &str) -> Result<
 
 /// Says `no such structure: NAME`. Errors are those of `say_pieces`.
 pub fn say_no_such_structure<D: Desk>(desk: &mut D, name: &Text) -> Result<(), DeskError>
-    ensures line { SaysLine (D.said desk.old) (D.said desk.new) (D.say_faults desk.old) (D.say_faults desk.new) (no_such_structure_line name.now) result }
-    ensures files_stay { D.files desk.new ≡ D.files desk.old }
-    ensures count { D.say_faults desk.old ≤ D.say_faults desk.new }
-    ensures fetch_count { D.fetch_faults desk.new ≡ D.fetch_faults desk.old }
-    ensures store_count { D.store_faults desk.new ≡ D.store_faults desk.old }
+    ensures { SaysLine (D.seen desk.old) (D.seen desk.new) (no_such_structure_line name.now) result }
 {
     say_pieces(
         desk,
@@ -91,11 +79,7 @@ pub fn say_no_such_structure<D: Desk>(desk: &mut D, name: &Text) -> Result<(), D
 /// Says `cyclic:` and then each name behind a space: structures that reference each other in a ring. Errors are those of
 /// `say_pieces`.
 pub fn say_cyclic<D: Desk>(desk: &mut D, names: &[Text]) -> Result<(), DeskError>
-    ensures line { SaysLine (D.said desk.old) (D.said desk.new) (D.say_faults desk.old) (D.say_faults desk.new) (cyclic_line names.now) result }
-    ensures files_stay { D.files desk.new ≡ D.files desk.old }
-    ensures count { D.say_faults desk.old ≤ D.say_faults desk.new }
-    ensures fetch_count { D.fetch_faults desk.new ≡ D.fetch_faults desk.old }
-    ensures store_count { D.store_faults desk.new ≡ D.store_faults desk.old }
+    ensures { SaysLine (D.seen desk.old) (D.seen desk.new) (cyclic_line names.now) result }
 {
     say_pieces(desk, &[Piece::Word("cyclic:")])?;
     say_names(desk, names)?;
@@ -104,11 +88,7 @@ pub fn say_cyclic<D: Desk>(desk: &mut D, names: &[Text]) -> Result<(), DeskError
 
 // Says each name behind a space.
 fn say_names<D: Desk>(desk: &mut D, names: &[Text]) -> Result<(), DeskError>
-    ensures line { SaysLine (D.said desk.old) (D.said desk.new) (D.say_faults desk.old) (D.say_faults desk.new) (flat_map named names.now) result }
-    ensures files_stay { D.files desk.new ≡ D.files desk.old }
-    ensures count { D.say_faults desk.old ≤ D.say_faults desk.new }
-    ensures fetch_count { D.fetch_faults desk.new ≡ D.fetch_faults desk.old }
-    ensures store_count { D.store_faults desk.new ≡ D.store_faults desk.old }
+    ensures { SaysLine (D.seen desk.old) (D.seen desk.new) (flat_map named names.now) result }
 {
     for name in names {
         say_pieces(desk, &[Piece::Word(" "), Piece::Name(name)])?;
@@ -119,11 +99,7 @@ fn say_names<D: Desk>(desk: &mut D, names: &[Text]) -> Result<(), DeskError>
 /// Says `unmapped layer: L N`: the source table neither maps nor ignores the layer and the data, text or box type
 /// beside it. Errors are those of `say_pieces`.
 pub fn say_unmapped_layer<D: Desk>(desk: &mut D, layer: &(i16, i16)) -> Result<(), DeskError>
-    ensures line { SaysLine (D.said desk.old) (D.said desk.new) (D.say_faults desk.old) (D.say_faults desk.new) (unmapped_layer_line layer.now.0 layer.now.1) result }
-    ensures files_stay { D.files desk.new ≡ D.files desk.old }
-    ensures count { D.say_faults desk.old ≤ D.say_faults desk.new }
-    ensures fetch_count { D.fetch_faults desk.new ≡ D.fetch_faults desk.old }
-    ensures store_count { D.store_faults desk.new ≡ D.store_faults desk.old }
+    ensures { SaysLine (D.seen desk.old) (D.seen desk.new) (unmapped_layer_line layer.now.0 layer.now.1) result }
 {
     say_pieces(
         desk,
@@ -140,11 +116,7 @@ pub fn say_unmapped_layer<D: Desk>(desk: &mut D, layer: &(i16, i16)) -> Result<(
 /// Says `array step at OFFSET`: the points of the array at the offset give no whole step. Errors are those of
 /// `say_pieces`.
 pub fn say_array_step<D: Desk>(desk: &mut D, offset: u64) -> Result<(), DeskError>
-    ensures line { SaysLine (D.said desk.old) (D.said desk.new) (D.say_faults desk.old) (D.say_faults desk.new) (array_step_line offset) result }
-    ensures files_stay { D.files desk.new ≡ D.files desk.old }
-    ensures count { D.say_faults desk.old ≤ D.say_faults desk.new }
-    ensures fetch_count { D.fetch_faults desk.new ≡ D.fetch_faults desk.old }
-    ensures store_count { D.store_faults desk.new ≡ D.store_faults desk.old }
+    ensures { SaysLine (D.seen desk.old) (D.seen desk.new) (array_step_line offset) result }
 {
     say_pieces(
         desk,
@@ -159,11 +131,7 @@ pub fn say_array_step<D: Desk>(desk: &mut D, offset: u64) -> Result<(), DeskErro
 /// Says `coordinate range at OFFSET`: a coordinate of the element at the offset is placed too far out. Errors are those
 /// of `say_pieces`.
 pub fn say_coordinate_range<D: Desk>(desk: &mut D, offset: u64) -> Result<(), DeskError>
-    ensures line { SaysLine (D.said desk.old) (D.said desk.new) (D.say_faults desk.old) (D.say_faults desk.new) (coordinate_range_line offset) result }
-    ensures files_stay { D.files desk.new ≡ D.files desk.old }
-    ensures count { D.say_faults desk.old ≤ D.say_faults desk.new }
-    ensures fetch_count { D.fetch_faults desk.new ≡ D.fetch_faults desk.old }
-    ensures store_count { D.store_faults desk.new ≡ D.store_faults desk.old }
+    ensures { SaysLine (D.seen desk.old) (D.seen desk.new) (coordinate_range_line offset) result }
 {
     say_pieces(
         desk,
@@ -177,11 +145,7 @@ pub fn say_coordinate_range<D: Desk>(desk: &mut D, offset: u64) -> Result<(), De
 
 /// Says `too deep`: a chain of references is too long. Errors are those of `say_pieces`.
 pub fn say_too_deep<D: Desk>(desk: &mut D) -> Result<(), DeskError>
-    ensures line { SaysLine (D.said desk.old) (D.said desk.new) (D.say_faults desk.old) (D.say_faults desk.new) too_deep_line result }
-    ensures files_stay { D.files desk.new ≡ D.files desk.old }
-    ensures count { D.say_faults desk.old ≤ D.say_faults desk.new }
-    ensures fetch_count { D.fetch_faults desk.new ≡ D.fetch_faults desk.old }
-    ensures store_count { D.store_faults desk.new ≡ D.store_faults desk.old }
+    ensures { SaysLine (D.seen desk.old) (D.seen desk.new) too_deep_line result }
 {
     say_pieces(desk, &[Piece::Word("too deep"), Piece::Word("\n")])
 }
@@ -189,11 +153,7 @@ pub fn say_too_deep<D: Desk>(desk: &mut D) -> Result<(), DeskError>
 /// Says `source rule: RULE at PX PY and QX QY: found F, needed G`, where RULE is `width M` or `space M` with the name
 /// of the mask. Errors are those of `say_pieces`.
 pub fn say_source_rule<D: Desk>(desk: &mut D, broken: &BrokenRule<'_>) -> Result<(), DeskError>
-    ensures line { SaysLine (D.said desk.old) (D.said desk.new) (D.say_faults desk.old) (D.say_faults desk.new) (source_rule_line broken.now.rule broken.now.mask.now broken.now.p broken.now.q broken.now.found broken.now.needed) result }
-    ensures files_stay { D.files desk.new ≡ D.files desk.old }
-    ensures count { D.say_faults desk.old ≤ D.say_faults desk.new }
-    ensures fetch_count { D.fetch_faults desk.new ≡ D.fetch_faults desk.old }
-    ensures store_count { D.store_faults desk.new ≡ D.store_faults desk.old }
+    ensures { SaysLine (D.seen desk.old) (D.seen desk.new) (source_rule_line broken.now.rule broken.now.mask.now broken.now.p broken.now.q broken.now.found broken.now.needed) result }
 {
     say_pieces(
         desk,
@@ -220,11 +180,7 @@ pub fn say_source_rule<D: Desk>(desk: &mut D, broken: &BrokenRule<'_>) -> Result
 
 /// Says `too many: N items`: the layout has that many rectangles and labels. Errors are those of `say_pieces`.
 pub fn say_too_many_items<D: Desk>(desk: &mut D, count: u64) -> Result<(), DeskError>
-    ensures line { SaysLine (D.said desk.old) (D.said desk.new) (D.say_faults desk.old) (D.say_faults desk.new) (too_many_items_line count) result }
-    ensures files_stay { D.files desk.new ≡ D.files desk.old }
-    ensures count { D.say_faults desk.old ≤ D.say_faults desk.new }
-    ensures fetch_count { D.fetch_faults desk.new ≡ D.fetch_faults desk.old }
-    ensures store_count { D.store_faults desk.new ≡ D.store_faults desk.old }
+    ensures { SaysLine (D.seen desk.old) (D.seen desk.new) (too_many_items_line count) result }
 {
     say_pieces(
         desk,

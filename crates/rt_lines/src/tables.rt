@@ -1,5 +1,6 @@
-ghost use Rattle.std.specs.Prelude.{◌≡◌, ◌≤◌, [], ◌∷◌, codes};
-ghost use Rattle.rt_lines.specs.Saying.{SaysLine};
+//! The lines on the two rule tables and the sizes file.
+ghost use Rattle.std.specs.Prelude.{[], ◌∷◌, codes};
+ghost use Rattle.rt_lines.specs.Said.{SaysLine};
 ghost use Rattle.rt_lines.specs.Lines.{line, table_cause, table_fault_line, table_not_toml_line, tables_differ_line, sizes_fault_line, sizes_not_toml_line, no_axis_line};
 
 use crate::pieces::{Piece, say_pieces};
@@ -16,22 +17,14 @@ pub fn say_table_fault<D: Desk>(
     key: &Text,
     cause: &TableCause,
 ) -> Result<(), DeskError>
-    ensures line { SaysLine (D.said desk.old) (D.said desk.new) (D.say_faults desk.old) (D.say_faults desk.new) (table_fault_line which.now key.now cause.now) result }
-    ensures files_stay { D.files desk.new ≡ D.files desk.old }
-    ensures count { D.say_faults desk.old ≤ D.say_faults desk.new }
-    ensures fetch_count { D.fetch_faults desk.new ≡ D.fetch_faults desk.old }
-    ensures store_count { D.store_faults desk.new ≡ D.store_faults desk.old }
+    ensures { SaysLine (D.seen desk.old) (D.seen desk.new) (table_fault_line which.now key.now cause.now) result }
 {
     say_fault(desk, table_word(which), key, cause)
 }
 
 /// Says `source table: not toml` or `target table: not toml`. Errors are those of `say_pieces`.
 pub fn say_table_not_toml<D: Desk>(desk: &mut D, which: &Which) -> Result<(), DeskError>
-    ensures line { SaysLine (D.said desk.old) (D.said desk.new) (D.say_faults desk.old) (D.say_faults desk.new) (table_not_toml_line which.now) result }
-    ensures files_stay { D.files desk.new ≡ D.files desk.old }
-    ensures count { D.say_faults desk.old ≤ D.say_faults desk.new }
-    ensures fetch_count { D.fetch_faults desk.new ≡ D.fetch_faults desk.old }
-    ensures store_count { D.store_faults desk.new ≡ D.store_faults desk.old }
+    ensures { SaysLine (D.seen desk.old) (D.seen desk.new) (table_not_toml_line which.now) result }
 {
     say_pieces(
         desk,
@@ -45,11 +38,7 @@ pub fn say_table_not_toml<D: Desk>(desk: &mut D, which: &Which) -> Result<(), De
 
 /// Says `tables differ: KEY`: the two tables differ in form at the key. Errors are those of `say_pieces`.
 pub fn say_tables_differ<D: Desk>(desk: &mut D, key: &Text) -> Result<(), DeskError>
-    ensures line { SaysLine (D.said desk.old) (D.said desk.new) (D.say_faults desk.old) (D.say_faults desk.new) (tables_differ_line key.now) result }
-    ensures files_stay { D.files desk.new ≡ D.files desk.old }
-    ensures count { D.say_faults desk.old ≤ D.say_faults desk.new }
-    ensures fetch_count { D.fetch_faults desk.new ≡ D.fetch_faults desk.old }
-    ensures store_count { D.store_faults desk.new ≡ D.store_faults desk.old }
+    ensures { SaysLine (D.seen desk.old) (D.seen desk.new) (tables_differ_line key.now) result }
 {
     say_pieces(
         desk,
@@ -67,11 +56,7 @@ pub fn say_sizes_fault<D: Desk>(
     key: &Text,
     cause: &TableCause,
 ) -> Result<(), DeskError>
-    ensures line { SaysLine (D.said desk.old) (D.said desk.new) (D.say_faults desk.old) (D.say_faults desk.new) (sizes_fault_line key.now cause.now) result }
-    ensures files_stay { D.files desk.new ≡ D.files desk.old }
-    ensures count { D.say_faults desk.old ≤ D.say_faults desk.new }
-    ensures fetch_count { D.fetch_faults desk.new ≡ D.fetch_faults desk.old }
-    ensures store_count { D.store_faults desk.new ≡ D.store_faults desk.old }
+    ensures { SaysLine (D.seen desk.old) (D.seen desk.new) (sizes_fault_line key.now cause.now) result }
 {
     say_fault(desk, "sizes: ", key, cause)
 }
@@ -83,11 +68,7 @@ fn say_fault<'a, D: Desk>(
     at: &'a Text,
     cause: &TableCause,
 ) -> Result<(), DeskError>
-    ensures line { SaysLine (D.said desk.old) (D.said desk.new) (D.say_faults desk.old) (D.say_faults desk.new) (line (file.now ∷ at.now ∷ codes ": " ∷ table_cause cause.now ∷ [])) result }
-    ensures files_stay { D.files desk.new ≡ D.files desk.old }
-    ensures count { D.say_faults desk.old ≤ D.say_faults desk.new }
-    ensures fetch_count { D.fetch_faults desk.new ≡ D.fetch_faults desk.old }
-    ensures store_count { D.store_faults desk.new ≡ D.store_faults desk.old }
+    ensures { SaysLine (D.seen desk.old) (D.seen desk.new) (line (file.now ∷ at.now ∷ codes ": " ∷ table_cause cause.now ∷ [])) result }
 {
     say_pieces(
         desk,
@@ -103,22 +84,14 @@ fn say_fault<'a, D: Desk>(
 
 /// Says `sizes: not toml`. Errors are those of `say_pieces`.
 pub fn say_sizes_not_toml<D: Desk>(desk: &mut D) -> Result<(), DeskError>
-    ensures line { SaysLine (D.said desk.old) (D.said desk.new) (D.say_faults desk.old) (D.say_faults desk.new) sizes_not_toml_line result }
-    ensures files_stay { D.files desk.new ≡ D.files desk.old }
-    ensures count { D.say_faults desk.old ≤ D.say_faults desk.new }
-    ensures fetch_count { D.fetch_faults desk.new ≡ D.fetch_faults desk.old }
-    ensures store_count { D.store_faults desk.new ≡ D.store_faults desk.old }
+    ensures { SaysLine (D.seen desk.old) (D.seen desk.new) sizes_not_toml_line result }
 {
     say_pieces(desk, &[Piece::Word("sizes: not toml"), Piece::Word("\n")])
 }
 
 /// Says `no axis`: the source has no axis to mirror at. Errors are those of `say_pieces`.
 pub fn say_no_axis<D: Desk>(desk: &mut D) -> Result<(), DeskError>
-    ensures line { SaysLine (D.said desk.old) (D.said desk.new) (D.say_faults desk.old) (D.say_faults desk.new) no_axis_line result }
-    ensures files_stay { D.files desk.new ≡ D.files desk.old }
-    ensures count { D.say_faults desk.old ≤ D.say_faults desk.new }
-    ensures fetch_count { D.fetch_faults desk.new ≡ D.fetch_faults desk.old }
-    ensures store_count { D.store_faults desk.new ≡ D.store_faults desk.old }
+    ensures { SaysLine (D.seen desk.old) (D.seen desk.new) no_axis_line result }
 {
     say_pieces(desk, &[Piece::Word("no axis"), Piece::Word("\n")])
 }

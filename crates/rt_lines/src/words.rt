@@ -1,3 +1,4 @@
+//! The words of causes and of kinds of rules, as lines spell them.
 ghost use Rattle.std.specs.Prelude.{◌≡◌};
 ghost use Rattle.rt_lines.specs.Lines.{stream_cause, table_cause, table_word, rule_word};
 

@@ -1,4 +1,5 @@
-pub mod Seven
-pub mod Fetches
 pub mod Refused
-pub mod Ending
+pub mod Seven
+pub mod FetchLemmas
+pub mod EndLemmas
+pub mod MeaningLemmas

@@ -2,7 +2,7 @@
 use Rattle.std.proofs.Common.{◌≡◌, ℕ, List}
 use Rattle.rt_retarget.specs.declared.answer.Fault.{Fault}
 use Rattle.rt_retarget.specs.Answers.{IsFaultOf}
-use Rattle.rt_run.specs.Outside.{Contents}
+use Rattle.rt_run.specs.Fetched.{Contents}
 
 pub refusal_of_lists : (contents : Contents) (source stable ttable sizes : List ℕ) (fault : Fault)
     → source ≡ contents.source → stable ≡ contents.stable → ttable ≡ contents.ttable → sizes ≡ contents.sizes

@@ -1,8 +1,8 @@
--- The answers of a run: the status and the line of each, and what it says of the words, the files and the desk.
-use Rattle.std.specs.Prelude.{◌≡◌, ℕ, List, [], Option, codes}
+-- The answers of a run: the status and the line of each, and what it means for the words, the files and the desk.
+use Rattle.std.specs.Prelude.{◌≡◌, ℕ, List, [], codes}
 use Rattle.rt_desk.specs.declared.outside.DeskError.{DeskError}
 use Rattle.rt_desk.specs.declared.outside.DeskError.TheVariants as unfetched
-use Rattle.rt_desk.specs.Desk.{Files, Rose, IsStored, ChangesOnly, IsSaid, IsSaidInPart, IsFailedSay}
+use Rattle.rt_desk.specs.Desk.{Outside, IsStored, IsFailedStore, IsSaid, IsSaidInPart, IsFailedSay}
 use Rattle.rt_lines.specs.Lines.{usage_line, bad_stream_line, table_fault_line, table_not_toml_line, tables_differ_line, sizes_fault_line, sizes_not_toml_line, source_rule_line, unfetched_line, not_built_line, unsupported_line, no_such_structure_line, cyclic_line, unmapped_layer_line, array_step_line, coordinate_range_line, too_many_items_line, too_deep_line}
 use Rattle.gds_flat.specs.declared.error.Odd.{Odd}
 use Rattle.gds_flat.specs.declared.error.Odd.TheVariants.{PathType, PathWidth, BoxElement, Magnification, Angle, Absolute, Slanted}
@@ -15,7 +15,7 @@ use Rattle.rt_retarget.specs.Answers.{IsDone, IsFaultOf}
 use Rattle.rt_run.specs.declared.answer.Answer.{Answer}
 use Rattle.rt_run.specs.declared.answer.Answer.TheVariants.{Done, Usage, Refused, NotFetched, NotStored, OutOfMemory}
 use Rattle.rt_run.specs.Words.{Names, AreWordsFor}
-use Rattle.rt_run.specs.Outside.{Kept, Seen, Contents, AreFetched, IsNotFetched, fetched_names}
+use Rattle.rt_run.specs.Fetched.{Contents, AreFetched, IsNotFetched, fetched_names}
 
 -- the status of each reason for which the source's cell isn't flattened
 abbrev pub number_of_unflattened : FlatError → ℕ
@@ -108,80 +108,84 @@ module _ (contents : Contents) where
   AreMovedTo bytes = IsDone contents.source contents.stable contents.ttable contents.sizes bytes
 
   -- the cell was moved to these bytes, OUT holds them, and every other file is as it was
-  pub record IsStoredDone (out : List ℕ) (files files_after : Option Files) : Type 0 where
+  pub record IsStoredDone (out : List ℕ) (before after : Outside) : Type 0 where
     pub bytes : List ℕ
     pub moved : AreMovedTo bytes
-    pub stored : IsStored files files_after out bytes
+    pub stored : IsStored before.files after.files out bytes
 
-  -- the cell was moved, but OUT wasn't stored: a store was a fault, and OUT's file alone may differ
-  pub record IsNotStored (out : List ℕ) (files files_after : Option Files) (stores stores_after : ℕ) : Type 0 where
+  -- the cell was moved, but OUT wasn't stored: the store was a fault, and OUT's file alone may differ
+  pub record IsNotStored (out : List ℕ) (before after : Outside) : Type 0 where
     pub bytes : List ℕ
     pub moved : AreMovedTo bytes
-    pub cause : Rose stores stores_after
-    pub others_stay : ChangesOnly files files_after out
+    pub failed : IsFailedStore before after out
 
-  -- what an answer says of the contents of the files, of the files before and after, and of the count of stores
-  abbrev pub SaysOfContents : List ℕ → Option Files → Option Files → ℕ → ℕ → Answer → Type 0
-  SaysOfContents out files files_after stores stores_after Done = IsStoredDone out files files_after
-  SaysOfContents out files files_after stores stores_after NotStored = IsNotStored out files files_after stores stores_after
-  SaysOfContents out files files_after stores stores_after (Refused fault) =
-      IsFaultOf contents.source contents.stable contents.ttable contents.sizes fault × (files_after ≡ files)
-  SaysOfContents out files files_after stores stores_after OutOfMemory = files_after ≡ files
-  SaysOfContents out files files_after stores stores_after Usage = ⊥
-  SaysOfContents out files files_after stores stores_after (NotFetched file) = ⊥
+  -- what an answer means for the contents of the files, and for the outside before and after
+  abbrev pub MeansOfContents : List ℕ → Outside → Outside → Answer → Type 0
+  MeansOfContents out before after Done = IsStoredDone out before after
+  MeansOfContents out before after NotStored = IsNotStored out before after
+  MeansOfContents out before after (Refused fault) =
+      IsFaultOf contents.source contents.stable contents.ttable contents.sizes fault × (after.files ≡ before.files)
+  MeansOfContents out before after OutOfMemory = after.files ≡ before.files
+  MeansOfContents out before after Usage = ⊥
+  MeansOfContents out before after (NotFetched file) = ⊥
 
--- what an answer says of the store of the moved cell
-abbrev pub StoreSays : Option Files → Option Files → ℕ → ℕ → List ℕ → List ℕ → Answer → Type 0
-StoreSays files files_after stores stores_after out bytes Done = IsStored files files_after out bytes
-StoreSays files files_after stores stores_after out bytes NotStored = Rose stores stores_after × ChangesOnly files files_after out
-StoreSays files files_after stores stores_after out bytes OutOfMemory = files_after ≡ files
-StoreSays files files_after stores stores_after out bytes _ = ⊥
+-- what an answer means for the store of the moved cell
+abbrev pub MeansOfStore : Outside → Outside → List ℕ → List ℕ → Answer → Type 0
+MeansOfStore before after out bytes Done = IsStored before.files after.files out bytes
+MeansOfStore before after out bytes NotStored = IsFailedStore before after out
+MeansOfStore before after out bytes OutOfMemory = after.files ≡ before.files
+MeansOfStore before after out bytes _ = ⊥
 
--- the four files were fetched, and the answer says this of their contents
-pub record SaysOfFetched (names : Names) (before after : Kept) (answer : Answer) : Type 0 where
+-- the four files were fetched, and the answer means this for their contents
+pub record MeansOfFetched (names : Names) (before after : Outside) (answer : Answer) : Type 0 where
   pub contents : Contents
   pub fetched : AreFetched before.files names contents
-  pub says : SaysOfContents contents names.out before.files after.files before.stores after.stores answer
+  pub means : MeansOfContents contents names.out before after answer
 
--- what an answer says of the named files
-abbrev pub SaysOfNames : Names → Kept → Kept → Answer → Type 0
-SaysOfNames names before after Done = SaysOfFetched names before after Done
-SaysOfNames names before after NotStored = SaysOfFetched names before after NotStored
-SaysOfNames names before after (Refused fault) = SaysOfFetched names before after (Refused fault)
-SaysOfNames names before after (NotFetched file) =
-    IsNotFetched before.files before.fetches after.fetches (fetched_names names) file.name.now file.error × (after.files ≡ before.files)
-SaysOfNames names before after OutOfMemory = after.files ≡ before.files
-SaysOfNames names before after Usage = ⊥
+-- what an answer means for the named files
+abbrev pub MeansOfNames : Names → Outside → Outside → Answer → Type 0
+MeansOfNames names before after Done = MeansOfFetched names before after Done
+MeansOfNames names before after NotStored = MeansOfFetched names before after NotStored
+MeansOfNames names before after (Refused fault) = MeansOfFetched names before after (Refused fault)
+MeansOfNames names before after (NotFetched file) =
+    IsNotFetched before after (fetched_names names) file.name.now file.error × (after.files ≡ before.files)
+MeansOfNames names before after OutOfMemory = after.files ≡ before.files
+MeansOfNames names before after Usage = ⊥
 
--- the words are of the form, and the answer says this of the files that they name
-pub record SaysOfWords (words : List (List ℕ)) (before after : Kept) (answer : Answer) : Type 0 where
+-- the words are of the form, and the answer means this for the files that they name
+pub record MeansOfWords (words : List (List ℕ)) (before after : Outside) (answer : Answer) : Type 0 where
   pub names : Names
   pub form : AreWordsFor words names
-  pub says : SaysOfNames names before after answer
+  pub means : MeansOfNames names before after answer
 
 -- the words are of no form, and the files are as they were
-pub record IsUsage (words : List (List ℕ)) (before after : Kept) : Type 0 where
+pub record IsUsage (words : List (List ℕ)) (before after : Outside) : Type 0 where
   pub no_form : (names : Names) → ¬ AreWordsFor words names
   pub files : after.files ≡ before.files
 
--- what an answer says
-abbrev pub Says : List (List ℕ) → Kept → Kept → Answer → Type 0
-Says words before after Usage = IsUsage words before after
-Says words before after Done = SaysOfWords words before after Done
-Says words before after NotStored = SaysOfWords words before after NotStored
-Says words before after (Refused fault) = SaysOfWords words before after (Refused fault)
-Says words before after (NotFetched file) = SaysOfWords words before after (NotFetched file)
-Says words before after OutOfMemory = SaysOfWords words before after OutOfMemory
+-- what an answer means
+abbrev pub Means : List (List ℕ) → Outside → Outside → Answer → Type 0
+Means words before after Usage = IsUsage words before after
+Means words before after Done = MeansOfWords words before after Done
+Means words before after NotStored = MeansOfWords words before after NotStored
+Means words before after (Refused fault) = MeansOfWords words before after (Refused fault)
+Means words before after (NotFetched file) = MeansOfWords words before after (NotFetched file)
+Means words before after OutOfMemory = MeansOfWords words before after OutOfMemory
+
+-- nothing was said, and no say was a fault
+pub record IsSilent (before after : Outside) : Type 0 where
+  pub said : after.said ≡ before.said
+  pub say_faults : after.say_faults ≡ before.say_faults
 
 -- how a run ends: the line was said, or a first part of it where a say was a fault, and the status is the answer's; or there
 -- is a line, but there was no memory to say all of it, and the status is 13
-pub data Ends (old new : Option (List ℕ)) (faults faults_after : ℕ) (line : List ℕ) (number : ℕ) : ℕ → Type 0 where
-  said : IsSaid old new line → Ends old new faults faults_after line number number
-  failed : IsFailedSay old new faults faults_after line → Ends old new faults faults_after line number number
-  no_memory : (line ≡ [] → ⊥) → (count : ℕ) → IsSaidInPart old new line count → Ends old new faults faults_after line number 13
+pub data Ends (old new : Outside) (line : List ℕ) (number : ℕ) : ℕ → Type 0 where
+  said : IsSaid old new line → Ends old new line number number
+  failed : IsFailedSay old new line → Ends old new line number number
+  no_memory : (line ≡ [] → ⊥) → (count : ℕ) → IsSaidInPart old new line count → Ends old new line number 13
 
--- all that an answer says holds, and its line and its status end the run
-pub record Answers (words : List (List ℕ)) (before after : Seen) (status : ℕ) : Type 0 where
+-- a run: all that its answer means holds, and the answer's line and status end it
+pub record IsRunOf (words : List (List ℕ)) (before after : Outside) (status : ℕ) : Type 0 where
   pub answer : Answer
-  pub says : Says words before.kept after.kept answer
-  pub ends : Ends before.said after.said before.says after.says (line_of answer) (number_of answer) status
+  pub means : Means words before after answer
+  pub ends : Ends before after (line_of answer) (number_of answer) status

@@ -2,7 +2,7 @@
 use Rattle.rt_run.specs.declared.words.Retarget.{Retarget}
 use Rattle.rt_run.specs.declared.fetching.Inputs.{Inputs}
 use Rattle.rt_run.specs.Words.{Names}
-use Rattle.rt_run.specs.Outside.{Contents}
+use Rattle.rt_run.specs.Fetched.{Contents}
 
 -- the names as lists of bytes
 abbrev pub names_in : Retarget → Names

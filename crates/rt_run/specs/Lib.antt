@@ -1,4 +1,4 @@
 pub mod Words
-pub mod Outside
+pub mod Fetched
 pub mod Given
 pub mod Answers

@@ -1,3 +1,4 @@
+//! How a run ends, and the status of each end.
 ghost use Rattle.std.specs.Prelude.{◌≡◌};
 ghost use Rattle.rt_run.specs.Answers.{number_of_refusal, number_of_unflattened, number_of_unfetched};
 
@@ -7,7 +8,7 @@ use rt_desk::DeskError;
 use rt_retarget::Fault;
 
 /// How a run ends.
-#[derive(Debug, Drop)]
+#[derive(Drop)]
 pub enum Answer<'a> {
     /// The cell was moved, and OUT holds it.
     Done,

@@ -1,6 +1,7 @@
-ghost use Rattle.std.specs.Prelude.{◌≡◌, ◌≤◌, IfOk, IfErr};
-ghost use Rattle.rt_desk.specs.Desk.{IsFetched};
-ghost use Rattle.rt_run.specs.Outside.{AreFetched, IsNotFetched, FetchFails, fetched_names, file_limit};
+//! The four files of a run, and the first of them that isn't fetched.
+ghost use Rattle.std.specs.Prelude.{◌≡◌, IfOk, IfErr};
+ghost use Rattle.rt_desk.specs.Desk.{IsFetched, OnlyFetches};
+ghost use Rattle.rt_run.specs.Fetched.{AreFetched, IsNotFetched, FetchFails, fetched_names};
 ghost use Rattle.rt_run.specs.Given.{names_in, contents_in};
 
 use crate::words::Retarget;
@@ -24,7 +25,7 @@ pub struct Inputs {
 }
 
 /// A file that wasn't fetched.
-#[derive(Clone, Copy, Debug, PartialEq, Eq, Drop)]
+#[derive(Drop)]
 pub struct Unfetched<'a> {
     /// Why: the desk failed, the file isn't there, it is too long, or there was no memory.
     pub error: DeskError,
@@ -38,13 +39,9 @@ pub fn fetch_all<'a, D: Desk>(
     names: &Retarget<'a>,
     desk: &mut D,
 ) -> Result<Inputs, Unfetched<'a>>
-    ensures fetched { IfOk result (λ files. AreFetched (D.files desk.old) (names_in names.now) (contents_in files)) }
-    ensures refused { IfErr result (λ u. IsNotFetched (D.files desk.old) (D.fetch_faults desk.old) (D.fetch_faults desk.new) (fetched_names (names_in names.now)) u.name.now u.error) }
-    ensures files_stay { D.files desk.new ≡ D.files desk.old }
-    ensures said_stay { D.said desk.new ≡ D.said desk.old }
-    ensures count { D.fetch_faults desk.old ≤ D.fetch_faults desk.new }
-    ensures store_count { D.store_faults desk.new ≡ D.store_faults desk.old }
-    ensures say_count { D.say_faults desk.new ≡ D.say_faults desk.old }
+    ensures fetched { IfOk result (λ files. AreFetched (D.seen desk.old).files (names_in names.now) (contents_in files)) }
+    ensures refused { IfErr result (λ u. IsNotFetched (D.seen desk.old) (D.seen desk.new) (fetched_names (names_in names.now)) u.name.now u.error) }
+    ensures stays { OnlyFetches (D.seen desk.old) (D.seen desk.new) }
 {
     let source = fetch(alloc, names.source, desk)?;
     let stable = fetch(alloc, names.stable, desk)?;
@@ -60,14 +57,10 @@ pub fn fetch_all<'a, D: Desk>(
 
 // Fetches a file.
 fn fetch<'a, D: Desk>(alloc: Global, name: &'a str, desk: &mut D) -> Result<Vec<u8>, Unfetched<'a>>
-    ensures fetched { IfOk result (λ bytes. IsFetched (D.files desk.old) name.now file_limit bytes.items) }
+    ensures fetched { IfOk result (λ bytes. IsFetched (D.seen desk.old).files name.now FILE_LIMIT bytes.items) }
     ensures named { IfErr result (λ u. u.name.now ≡ name.now) }
-    ensures refused { IfErr result (λ u. FetchFails (D.files desk.old) (D.fetch_faults desk.old) (D.fetch_faults desk.new) name.now u.error) }
-    ensures files_stay { D.files desk.new ≡ D.files desk.old }
-    ensures said_stay { D.said desk.new ≡ D.said desk.old }
-    ensures count { D.fetch_faults desk.old ≤ D.fetch_faults desk.new }
-    ensures store_count { D.store_faults desk.new ≡ D.store_faults desk.old }
-    ensures say_count { D.say_faults desk.new ≡ D.say_faults desk.old }
+    ensures refused { IfErr result (λ u. FetchFails (D.seen desk.old) (D.seen desk.new) name.now u.error) }
+    ensures stays { OnlyFetches (D.seen desk.old) (D.seen desk.new) }
 {
     match desk.fetch(alloc, name, FILE_LIMIT) {
         Ok(bytes) => Ok(bytes),

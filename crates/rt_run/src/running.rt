@@ -1,8 +1,8 @@
-ghost use Rattle.std.specs.Prelude.{◌≡◌};
+//! A run of the program: its words, its answer, its line and its status.
+ghost use Rattle.rt_desk.specs.Desk.{OnlySays};
 ghost use Rattle.rt_run.specs.Words.{bytes_of};
-ghost use Rattle.rt_run.specs.Outside.{kept, seen};
 ghost use Rattle.rt_run.specs.Given.{names_in, contents_in};
-ghost use Rattle.rt_run.specs.Answers.{Says, SaysOfNames, SaysOfContents, StoreSays, Answers, Ends, line_of, number_of};
+ghost use Rattle.rt_run.specs.Answers.{Means, MeansOfNames, MeansOfContents, MeansOfStore, IsRunOf, IsSilent, Ends, line_of, number_of};
 
 use crate::answer::Answer;
 use crate::fetching::{Inputs, fetch_all};
@@ -31,20 +31,19 @@ const NO_MEMORY: u8 = 13;
 ///
 /// For each status but 0, 12 and 13 it says one line, which names the place and the cause. Where a say fails no more of the
 /// line is said, and the status stands; where there is no memory for it, the status is 13.
+#[tactic(auto, using(crate::proofs::MeaningLemmas::means_until, crate::proofs::EndLemmas::silent_ends))]
 pub fn run<D: Desk>(alloc: Global, words: &[String], desk: &mut D) -> Status
-    ensures { Answers (bytes_of words.now) (seen (D.files desk.old) (D.said desk.old) (D.fetch_faults desk.old) (D.store_faults desk.old) (D.say_faults desk.old)) (seen (D.files desk.new) (D.said desk.new) (D.fetch_faults desk.new) (D.store_faults desk.new) (D.say_faults desk.new)) result.0 }
+    ensures { IsRunOf (bytes_of words.now) (D.seen desk.old) (D.seen desk.new) result.0 }
 {
     let answer = answer_of(alloc, words, desk);
     say_status(&answer, desk)
 }
 
 // Says the line of an answer, and tells the status. A say is never answered that a file is missing or too long.
-#[tactic(auto, using(crate::proofs::Ending::nothing_ends, crate::proofs::Ending::said_ends, crate::proofs::Ending::failed_ends, crate::proofs::Ending::no_memory_ends))]
+#[tactic(auto, using(crate::proofs::EndLemmas::nothing_ends, crate::proofs::EndLemmas::said_ends, crate::proofs::EndLemmas::failed_ends, crate::proofs::EndLemmas::no_memory_ends))]
 fn say_status<D: Desk>(answer: &Answer<'_>, desk: &mut D) -> Status
-    ensures ends { Ends (D.said desk.old) (D.said desk.new) (D.say_faults desk.old) (D.say_faults desk.new) (line_of answer.now) (number_of answer.now) result.0 }
-    ensures files_stay { D.files desk.new ≡ D.files desk.old }
-    ensures fetch_count { D.fetch_faults desk.new ≡ D.fetch_faults desk.old }
-    ensures store_count { D.store_faults desk.new ≡ D.store_faults desk.old }
+    ensures ends { Ends (D.seen desk.old) (D.seen desk.new) (line_of answer.now) (number_of answer.now) result.0 }
+    ensures stays { OnlySays (D.seen desk.old) (D.seen desk.new) }
 {
     if !has_line(answer) {
         return Status(answer.number());
@@ -58,10 +57,10 @@ fn say_status<D: Desk>(answer: &Answer<'_>, desk: &mut D) -> Status
 }
 
 // The answer of a run.
+#[tactic(auto, using(crate::proofs::MeaningLemmas::of_names))]
 fn answer_of<'a, D: Desk>(alloc: Global, words: &'a [String], desk: &mut D) -> Answer<'a>
-    ensures says { Says (bytes_of words.now) (kept (D.files desk.old) (D.fetch_faults desk.old) (D.store_faults desk.old)) (kept (D.files desk.new) (D.fetch_faults desk.new) (D.store_faults desk.new)) result }
-    ensures said { D.said desk.new ≡ D.said desk.old }
-    ensures say_count { D.say_faults desk.new ≡ D.say_faults desk.old }
+    ensures means { Means (bytes_of words.now) (D.seen desk.old) (D.seen desk.new) result }
+    ensures silent { IsSilent (D.seen desk.old) (D.seen desk.new) }
 {
     match retarget_words(words) {
         Some(names) => retarget_files(alloc, &names, desk),
@@ -71,9 +70,8 @@ fn answer_of<'a, D: Desk>(alloc: Global, words: &'a [String], desk: &mut D) -> A
 
 // The answer where the words name the files.
 fn retarget_files<'a, D: Desk>(alloc: Global, names: &Retarget<'a>, desk: &mut D) -> Answer<'a>
-    ensures says { SaysOfNames (names_in names.now) (kept (D.files desk.old) (D.fetch_faults desk.old) (D.store_faults desk.old)) (kept (D.files desk.new) (D.fetch_faults desk.new) (D.store_faults desk.new)) result }
-    ensures said { D.said desk.new ≡ D.said desk.old }
-    ensures say_count { D.say_faults desk.new ≡ D.say_faults desk.old }
+    ensures means { MeansOfNames (names_in names.now) (D.seen desk.old) (D.seen desk.new) result }
+    ensures silent { IsSilent (D.seen desk.old) (D.seen desk.new) }
 {
     match fetch_all(alloc, names, desk) {
         Ok(files) => move_cell(alloc, &files, names.out, desk),
@@ -82,10 +80,10 @@ fn retarget_files<'a, D: Desk>(alloc: Global, names: &Retarget<'a>, desk: &mut D
 }
 
 // The answer where the files were fetched: it moves their cell and stores it as `out`.
+#[tactic(auto, using(crate::proofs::MeaningLemmas::of_store))]
 fn move_cell<'a, D: Desk>(alloc: Global, files: &Inputs, out: &str, desk: &mut D) -> Answer<'a>
-    ensures says { SaysOfContents (contents_in files.now) out.now (D.files desk.old) (D.files desk.new) (D.store_faults desk.old) (D.store_faults desk.new) result }
-    ensures said { D.said desk.new ≡ D.said desk.old }
-    ensures say_count { D.say_faults desk.new ≡ D.say_faults desk.old }
+    ensures means { MeansOfContents (contents_in files.now) out.now (D.seen desk.old) (D.seen desk.new) result }
+    ensures silent { IsSilent (D.seen desk.old) (D.seen desk.new) }
 {
     let outcome = match retarget(
         alloc,
@@ -107,9 +105,8 @@ fn move_cell<'a, D: Desk>(alloc: Global, files: &Inputs, out: &str, desk: &mut D
 
 // The answer where the cell was moved: it stores the bytes as `out`.
 fn store_moved<'a, D: Desk>(gds: &List<u8>, out: &str, desk: &mut D) -> Answer<'a>
-    ensures stored { StoreSays (D.files desk.old) (D.files desk.new) (D.store_faults desk.old) (D.store_faults desk.new) out.now gds.now result }
-    ensures said { D.said desk.new ≡ D.said desk.old }
-    ensures say_count { D.say_faults desk.new ≡ D.say_faults desk.old }
+    ensures means { MeansOfStore (D.seen desk.old) (D.seen desk.new) out.now gds.now result }
+    ensures silent { IsSilent (D.seen desk.old) (D.seen desk.new) }
 {
     match desk.store(out, gds.as_slice()) {
         Ok(()) => Answer::Done,

@@ -1,5 +1,6 @@
-ghost use Rattle.std.specs.Prelude.{◌≡◌, ◌≤◌, [], MatchBool};
-ghost use Rattle.rt_lines.specs.Saying.{SaysLine};
+//! The line of each answer.
+ghost use Rattle.std.specs.Prelude.{◌≡◌, [], MatchBool};
+ghost use Rattle.rt_lines.specs.Said.{SaysLine};
 ghost use Rattle.rt_run.specs.Answers.{line_of, line_of_refusal, line_of_unflattened, odd_word as word_of};
 
 use crate::answer::Answer;
@@ -49,11 +50,7 @@ fn unflattened_has_line(error: &FlatError) -> bool
 /// Says the line of an answer, or nothing where it has none: where OUT was stored, or wasn't, or there was no memory.
 /// Errors are those of a say: `Failed` only where the count of faults rose, `OutOfMemory`; then a first part was said.
 pub fn say_answer<D: Desk>(answer: &Answer<'_>, desk: &mut D) -> Result<(), DeskError>
-    ensures line { SaysLine (D.said desk.old) (D.said desk.new) (D.say_faults desk.old) (D.say_faults desk.new) (line_of answer.now) result }
-    ensures files_stay { D.files desk.new ≡ D.files desk.old }
-    ensures count { D.say_faults desk.old ≤ D.say_faults desk.new }
-    ensures fetch_count { D.fetch_faults desk.new ≡ D.fetch_faults desk.old }
-    ensures store_count { D.store_faults desk.new ≡ D.store_faults desk.old }
+    ensures { SaysLine (D.seen desk.old) (D.seen desk.new) (line_of answer.now) result }
 {
     match answer {
         Answer::Usage => say_usage(desk),
@@ -65,11 +62,7 @@ pub fn say_answer<D: Desk>(answer: &Answer<'_>, desk: &mut D) -> Result<(), Desk
 
 // Says the line of a refusal.
 fn say_refusal<D: Desk>(fault: &Fault, desk: &mut D) -> Result<(), DeskError>
-    ensures line { SaysLine (D.said desk.old) (D.said desk.new) (D.say_faults desk.old) (D.say_faults desk.new) (line_of_refusal fault.now) result }
-    ensures files_stay { D.files desk.new ≡ D.files desk.old }
-    ensures count { D.say_faults desk.old ≤ D.say_faults desk.new }
-    ensures fetch_count { D.fetch_faults desk.new ≡ D.fetch_faults desk.old }
-    ensures store_count { D.store_faults desk.new ≡ D.store_faults desk.old }
+    ensures { SaysLine (D.seen desk.old) (D.seen desk.new) (line_of_refusal fault.now) result }
 {
     match fault {
         Fault::TableToml { which } => say_table_not_toml(desk, which),
@@ -104,11 +97,7 @@ fn say_refusal<D: Desk>(fault: &Fault, desk: &mut D) -> Result<(), DeskError>
 
 // Says the line of a cell that isn't flattened.
 fn say_unflattened<D: Desk>(error: &FlatError, desk: &mut D) -> Result<(), DeskError>
-    ensures line { SaysLine (D.said desk.old) (D.said desk.new) (D.say_faults desk.old) (D.say_faults desk.new) (line_of_unflattened error.now) result }
-    ensures files_stay { D.files desk.new ≡ D.files desk.old }
-    ensures count { D.say_faults desk.old ≤ D.say_faults desk.new }
-    ensures fetch_count { D.fetch_faults desk.new ≡ D.fetch_faults desk.old }
-    ensures store_count { D.store_faults desk.new ≡ D.store_faults desk.old }
+    ensures { SaysLine (D.seen desk.old) (D.seen desk.new) (line_of_unflattened error.now) result }
 {
     match error {
         FlatError::Unsupported { offset, odd } => say_unsupported(desk, *offset, odd_word(odd)),
@@ -142,11 +131,7 @@ fn odd_word(odd: &Odd) -> &'static str
 
 // Says nothing.
 fn say_nothing<D: Desk>(desk: &mut D) -> Result<(), DeskError>
-    ensures line { SaysLine (D.said desk.old) (D.said desk.new) (D.say_faults desk.old) (D.say_faults desk.new) [] result }
-    ensures files_stay { D.files desk.new ≡ D.files desk.old }
-    ensures count { D.say_faults desk.old ≤ D.say_faults desk.new }
-    ensures fetch_count { D.fetch_faults desk.new ≡ D.fetch_faults desk.old }
-    ensures store_count { D.store_faults desk.new ≡ D.store_faults desk.old }
+    ensures { SaysLine (D.seen desk.old) (D.seen desk.new) [] result }
 {
     say_pieces(desk, &[])
 }

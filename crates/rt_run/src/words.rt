@@ -1,9 +1,10 @@
+//! The words of the command line, and the names that they give.
 ghost use Rattle.std.specs.Prelude.{◌≡◌, ℕ, MatchBool, MatchOption};
 ghost use Rattle.rt_run.specs.Words.{bytes_of, Names, IsFileWord, AreProper, AreWordsFor, words_of};
 ghost use Rattle.rt_run.specs.Given.{names_in};
 
 /// The names that the words of a retargeting give.
-#[derive(Clone, Copy, Drop)]
+#[derive(Drop)]
 pub struct Retarget<'a> {
     /// The stream of the source.
     pub source: &'a str,

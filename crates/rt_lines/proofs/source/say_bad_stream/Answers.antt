@@ -1,5 +1,5 @@
-use Rattle.rt_lines.proofs.Joining.{same_line}
+use Rattle.rt_lines.proofs.LineLemmas.{same_line}
 use Rattle.rt_lines.proofs.source.say_bad_stream.Goals as goal
 
-pub returns-clause-line : goal.returns-clause-line
-returns-clause-line g c = same_line _ _ _ _ _ _ _ (cc) c.say_pieces.ensures.line
+pub returns : goal.returns
+returns g c = same_line _ _ _ _ _ (cc) c.say_pieces.ensures

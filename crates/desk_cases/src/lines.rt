@@ -1,7 +1,13 @@
-use crate::*;
+//! Each line is said as the formats spell it, and nothing more of it after a fault.
 use gds_grammar::Cause;
 use rt_base::{Cell, List, Text};
-use rt_desk::{Desk, DeskError, MemoryDesk};
+use rt_desk::{DeskError, MemoryDesk};
+use rt_lines::{
+    BrokenRule, say_array_step, say_bad_stream, say_coordinate_range, say_cyclic, say_no_axis,
+    say_no_such_structure, say_not_built, say_sizes_fault, say_sizes_not_toml, say_source_rule,
+    say_table_fault, say_table_not_toml, say_tables_differ, say_too_deep, say_too_many_items,
+    say_unfetched, say_unmapped_layer, say_unsupported, say_usage,
+};
 use rt_tech::{RuleName, TableCause, Which};
 use std::alloc::Global;
 use std::test::Fail;
@@ -37,7 +43,7 @@ struct Names {
     ring: Vec<Text>,
 }
 
-const LINES: [(Line, &str); 37] = [
+static LINES: [(Line, &'static str); 37] = [
     (
         Line::Usage,
         "usage: retarget or check SOURCE STABLE TTABLE SIZES OUT CERT, or make N OUT\n",
@@ -213,35 +219,43 @@ fn some_names(alloc: Global) -> Result<Names, Fail> {
     })
 }
 
+// Whether the line is said as it is spelled, on a desk on which nothing was said.
+fn is_said(alloc: Global, line: &Line, names: &Names, spelled: &str) -> bool {
+    let mut desk = MemoryDesk::new(alloc, Vec::new(alloc));
+    say(&mut desk, line, names).is_ok() && desk.said() == spelled.as_bytes()
+}
+
 #[test]
 fn says_each_line(rt: HostRuntime) -> Result<(), Fail> {
-    let alloc = rt.alloc();
-    let names = some_names(alloc)?;
-    for (line, said) in &LINES {
-        let mut desk = MemoryDesk::new(alloc, Vec::new(alloc));
-        say(&mut desk, line, &names)?;
-        assert_eq!(rt; desk.said(), said.as_bytes(), "{said}");
+    let names = some_names(rt.alloc())?;
+    for (line, spelled) in &LINES {
+        assert!(rt; is_said(rt.alloc(), line, &names, spelled), "{spelled}");
     }
     Ok(())
 }
 
+// What is said of a line whose first, second, .. call fails.
+static PARTS: [&str; 5] = [
+    "",
+    "source table: ",
+    "source table: apart",
+    "source table: apart: ",
+    "source table: apart: Range",
+];
+
+// Whether no more than this part is said where the call of the number fails.
+fn stops(alloc: Global, names: &Names, nth: u64, part: &str) -> Result<bool, Fail> {
+    let mut desk = MemoryDesk::new(alloc, Vec::new(alloc));
+    desk.fail_at(nth)?;
+    let answer = say_table_fault(&mut desk, &Which::Source, &names.one, &TableCause::Range);
+    Ok(answer == Err(DeskError::Failed) && desk.said() == part.as_bytes())
+}
+
 #[test]
 fn says_no_more_after_a_fault(rt: HostRuntime) -> Result<(), Fail> {
-    let alloc = rt.alloc();
-    let names = some_names(alloc)?;
-    let parts = [
-        "",
-        "source table: ",
-        "source table: apart",
-        "source table: apart: ",
-        "source table: apart: Range",
-    ];
-    for (nth, part) in parts.iter().enumerate() {
-        let mut desk = MemoryDesk::new(alloc, Vec::new(alloc));
-        desk.fail_at(nth as u64)?;
-        let answer = say_table_fault(&mut desk, &Which::Source, &names.one, &TableCause::Range);
-        assert_eq!(rt; answer, Err(DeskError::Failed), "call {nth}");
-        assert_eq!(rt; desk.said(), part.as_bytes(), "call {nth}");
+    let names = some_names(rt.alloc())?;
+    for (nth, part) in PARTS.iter().enumerate() {
+        assert!(rt; stops(rt.alloc(), &names, nth as u64, part)?, "call {nth}");
     }
     Ok(())
 }
