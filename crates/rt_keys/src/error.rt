@@ -1,3 +1,4 @@
+//! Why a rule table or a sizes file is refused.
 use rt_base::{OutOfMemory, Text};
 use rt_tech::TableCause;
 use thiserror::Error;

@@ -1,3 +1,4 @@
+//! The entries of a list by their names: the first of those that are alike is found.
 ghost use Rattle.std.specs.Prelude.{◌≡◌, ℕ, List as ListValue, bytes_eq, Some, None, MatchOption, if◌then◌else◌};
 ghost use Rattle.std.specs.Option.{option_or};
 ghost use Rattle.indexmap.specs.IndexMap.{get_by};

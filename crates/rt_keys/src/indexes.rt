@@ -1,3 +1,4 @@
+//! The entries of a list by their indexes: the first of those that are alike is found.
 ghost use Rattle.std.specs.Prelude.{◌≡◌, ℕ, nat_eq, Some, None, if◌then◌else◌};
 ghost use Rattle.std.specs.Option.{option_or};
 ghost use Rattle.indexmap.specs.IndexMap.{get};

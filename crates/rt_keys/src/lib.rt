@@ -19,7 +19,7 @@ pub mod numbers;
 pub mod scale;
 /// Faults, and how they are answered.
 pub mod stop;
-/// Roles and layer pairs.
+/// Roles.
 pub mod words;
 
 pub use error::TableError;

@@ -1,3 +1,4 @@
+//! The sizes of kinds and of devices in a sizes file.
 ghost use Rattle.std.specs.Prelude.{◌≡◌, ℕ, Option, Some, None, MatchOption, codes};
 ghost use Rattle.toml.specs.Data.{Members};
 ghost use Rattle.toml.specs.View.{view, table_view, items_view};

@@ -1,3 +1,4 @@
+//! Sizes files as documents, key by key.
 ghost use Rattle.std.specs.Prelude.{◌≡◌, ◌+◌, true, false, nat_abs, MatchOption, Some, None, codes, is_some, IfOk, IfErr};
 ghost use Rattle.std.specs.List.{list_all};
 ghost use Rattle.toml.specs.View.{view, table_view, items_view};

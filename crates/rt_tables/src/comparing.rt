@@ -1,3 +1,4 @@
+//! Lists of two tables, compared entry by entry.
 ghost use Rattle.std.specs.Prelude.{◌≡◌, Option, false};
 ghost use Rattle.std.specs.Fmt.{decimal};
 ghost use Rattle.rt_tech.specs.declared.table.Tech.{Tech as TechValue};

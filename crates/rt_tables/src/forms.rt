@@ -1,3 +1,4 @@
+//! The form of two tables: what they say but for their numbers.
 ghost use Rattle.std.specs.Prelude.{◌≡◌, None, Some, IfErr, OnOk, is_some, option_map};
 ghost use Rattle.rt_keys.specs.Faults.{Reads};
 ghost use Rattle.rt_tables.specs.Forms.{name_at as name_in, upper_at, differs, same_flag as same_flag_of, same_name as same_name_of, same_on as same_on_of, mask_difference, enclose_difference, apart_difference, near_difference, lower_difference, kind_difference, difference as difference_of, HaveSameForm, IsTablesDiffer, RefusesTables};

@@ -1,3 +1,4 @@
+//! The entries of a table's list of kinds.
 ghost use Rattle.std.specs.Prelude.{◌≡◌, ◌&&◌, ◌||◌, not, ℕ, ℤ, List as ListValue, [], None, true, codes, length as count_of, ◌<◌, ◌^◌};
 ghost use Rattle.std.specs.List.{list_any, list_all};
 ghost use Rattle.toml.specs.View.{view, table_view, items_view, array_view};

@@ -1,3 +1,4 @@
+//! The entries of a table's list of masks.
 ghost use Rattle.std.specs.Prelude.{◌≡◌, ◌∷◌, IfOk, pos, true, false, ◌==◌, List as ListValue, ℤ, ℕ, unwrap_or, codes, not, is_some, MatchOption, Some, None, length as count_of};
 ghost use Rattle.std.specs.List.{list_any, list_all};
 ghost use Rattle.rt_tech.specs.Words.{same_pair as same_pair_of, same_role as same_role_of};

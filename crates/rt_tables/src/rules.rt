@@ -1,3 +1,4 @@
+//! A table's enclosures, its rules of channels and its distances.
 ghost use Rattle.std.specs.Prelude.{◌≡◌, ◌&&◌, ◌||◌, ◌==◌, not, ℕ, ℤ, true, false, List as ListValue, Some, None, is_none, codes, length as count_of, ◌<◌, ◌^◌};
 ghost use Rattle.std.specs.List.{list_any, list_all};
 ghost use Rattle.toml.specs.View.{view, table_view, items_view, array_view};

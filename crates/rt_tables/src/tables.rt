@@ -1,3 +1,4 @@
+//! Rule tables as documents, key by key.
 ghost use Rattle.std.specs.Prelude.{◌≡◌, ℕ, ℤ, pos, codes, bytes_eq, ◌≤◌, length as count_of};
 ghost use Rattle.toml.specs.View.{view, table_view, items_view, array_view};
 ghost use Rattle.rt_tech.specs.Tech.{IsGrid};
