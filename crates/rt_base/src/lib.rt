@@ -5,8 +5,6 @@ mod ledger;
 mod list;
 mod memory;
 mod plane;
-#[cfg(test)]
-mod tests;
 mod text;
 mod turns;
 

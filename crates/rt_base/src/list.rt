@@ -1,3 +1,4 @@
+//! Lists.
 ghost use Rattle.std.specs.Prelude.{◌≡◌, List as ListValue, [], ◌∷◌, ◌++◌, OnOk, OnErr};
 
 use crate::memory::OutOfMemory;

@@ -1,3 +1,4 @@
+//! Rectangles, cells, points and orientations, and how far two rectangles lie apart.
 ghost use Rattle.std.specs.Prelude.{◌≡◌, ◌<◌, ◌≤◌, ◌^◌, ◌-◌, ℤ, pos, negsuc, ◌≤ℤ◌, ◌<ℤ◌};
 ghost use Rattle.rt_cells.specs.Line.{gap_of};
 
@@ -52,8 +53,8 @@ pub struct Orient {
     ghost below_a_turn: { quarters < 4 },
 }
 
-/// The two axes: positions are found across first, and then upwards.
-#[derive(Clone, Copy, Debug, PartialEq, Eq, Drop)]
+/// The two axes: positions are found across first, and then upwards. For mirrors, not used yet.
+#[derive(Clone, Copy, Drop)]
 pub enum Axis {
     /// From left to right.
     Across,

@@ -1,3 +1,4 @@
+//! Texts of printable bytes.
 ghost use Rattle.std.specs.Prelude.{◌≡◌, ℕ, List as ListValue, MatchOption, IfOk, nat_eq, refl};
 ghost use Rattle.std.specs.Ordering.{nat_cmp, as_partial_cmp};
 ghost use Rattle.std.specs.Hash as fed;

@@ -1,3 +1,4 @@
+//! Turns of a point about the origin.
 ghost use Rattle.std.specs.Prelude.{◌≡◌};
 ghost use Rattle.rt_base.specs.Plane.{turned, reflected, quarter_turned, AreCoordinates};
 

@@ -4,4 +4,3 @@ pub mod Apart
 pub mod Carrying
 pub mod Listing
 pub mod Extents
-mod Sample

@@ -3,13 +3,14 @@ use Rattle.std.specs.Prelude.{◌≡◌, ℕ, ℤ, pos, ◌≤ℤ◌, List, [], 
 use Rattle.rt_tech.specs.declared.table.Mask.{Mask}
 use Rattle.rt_tech.specs.declared.table.Tech.{Tech}
 use Rattle.rt_tech.specs.Tech.{mask_at}
+use Rattle.rt_rows.specs.declared.positions.TheConstants.{EXTENT_LIMIT}
 use Rattle.rt_rows.specs.declared.row.Var.{Var}
 use Rattle.rt_rows.specs.declared.row.Var.TheVariants.{L, R, B, T}
 use Rattle.rt_rows.specs.declared.positions.Positions.{Positions}
 use Rattle.rt_template.specs.declared.job.Job.{Job}
 use Rattle.rt_template.specs.Strips.{Placed, mask_of}
 use Rattle.rt_template.specs.Standing.{IsStrip}
-use Rattle.rt_template.specs.Across.{strips_of, extent_limit}
+use Rattle.rt_template.specs.Across.{strips_of}
 use Rattle.rt_template.specs.Drawing.{drawn_area, drawn}
 use Rattle.gds_stream.specs.declared.cell.Shape.{Shape}
 use Rattle.gds_stream.specs.declared.cell.Flat.{Flat}
@@ -48,7 +49,7 @@ pub record HaveOneEntryEach (job : Job) (at : Positions) : Type 0 where
 -- the place isn't before 0 and isn't past the most that an extent may be
 pub record IsInExtent (place : ℤ) : Type 0 where
   pub low : pos 0 ≤ℤ place
-  pub high : place ≤ℤ extent_limit
+  pub high : place ≤ℤ EXTENT_LIMIT
 
 -- the four sides of strip i
 pub record AreInExtent (at : Var → ℤ) (i : ℕ) : Type 0 where

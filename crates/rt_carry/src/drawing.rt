@@ -1,3 +1,4 @@
+//! Positions as a cell of rectangles.
 ghost use Rattle.std.specs.Prelude.{◌≡◌, ◌<◌, ◌*ℤ◌, map, length, IfOk};
 ghost use Rattle.rt_tech.specs.Tech.{IsGrid, IsMeasured};
 ghost use Rattle.rt_rows.specs.Places.{places};

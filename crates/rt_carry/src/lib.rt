@@ -3,9 +3,7 @@
 #![tactic(auto)]
 
 mod drawing;
-mod law;
-#[cfg(test)]
-mod tests;
+mod laws;
 
 pub use drawing::draw;
-pub use law::drawings_break_no_rule;
+pub use laws::drawings_break_no_rule;

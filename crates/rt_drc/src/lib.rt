@@ -1,9 +1,9 @@
 //! The check of a drawing of separate strips against the rules of width and space of a table.
 #![tactic(auto)]
 
+mod laws;
 mod rules;
 mod search;
-#[cfg(test)]
-mod tests;
 
-pub use rules::{check_rules, first_breach_breaks};
+pub use laws::first_breach_breaks;
+pub use rules::check_rules;

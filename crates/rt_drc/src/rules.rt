@@ -1,10 +1,11 @@
+//! The check of a drawing, mask by mask. How a breach is found isn't known here.
 ghost use Rattle.std.specs.Prelude.{map, OnOk, IfErr};
 ghost use Rattle.rt_tech.specs.Tech.{IsMeasured, IsMeasuredMask};
 ghost use Rattle.rt_template.specs.Strips.{placed};
 ghost use Rattle.rt_template.specs.Separate.{AreSeparateStrips, AreOnMasksOf};
 ghost use Rattle.rt_template.specs.Rules.{BreaksNoRule, KeepsMaskRules};
 ghost use Rattle.rt_drc.specs.Found.{AreWideOn};
-ghost use Rattle.rt_drc.specs.Breach.{IsBreachOf, IsMaskBreachOf, FirstBreachBreaks};
+ghost use Rattle.rt_drc.specs.Breach.{IsBreachOf, IsMaskBreachOf};
 
 use crate::search::{Witness, first_near, first_short};
 use rt_tech::{Mask, RuleError, RuleName, Tech};
@@ -79,8 +80,3 @@ fn check_space(strips: &[Strip], m: u32, mask: &Mask) -> Result<(), RuleError>
         needed: mask.space,
     })
 }
-
-/// A first breach shows that the drawing breaks a rule of the table: the answer of `check_rules` is exact both ways.
-pub fn first_breach_breaks()
-    ensures { FirstBreachBreaks }
-{}

@@ -1,3 +1,4 @@
+//! The search for a strip that is too narrow, and for two that are too near, on one mask.
 ghost use Rattle.std.specs.Prelude.{◌≡◌, ◌<◌, ◌<ℤ◌, length, map, MatchOption};
 ghost use Rattle.std.specs.Int.{int_max};
 ghost use Rattle.rt_cells.specs.Line.{nearest_place};

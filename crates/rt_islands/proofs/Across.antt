@@ -5,6 +5,7 @@ use Rattle.std.specs.Int.{int_max, int_min}
 use mathlib.Core.Logic.{inl, inr}
 use Rattle.rt_cells.specs.Line.{gap_of}
 use Rattle.rt_path.specs.Least.{value_at}
+use Rattle.rt_rows.specs.declared.positions.TheConstants.{EXTENT_LIMIT}
 use Rattle.rt_rows.specs.declared.row.Var.{Var}
 use Rattle.rt_rows.specs.declared.row.Var.TheVariants.{L, R, Width}
 use Rattle.rt_rows.specs.declared.name.Name.{Name}
@@ -15,7 +16,7 @@ use Rattle.rt_template.specs.declared.job.Job.{Job}
 use Rattle.rt_template.specs.Strips.{mask_of, bottom_of, top_of}
 use Rattle.rt_template.specs.Standing.{IsStrip, rows_apart}
 use Rattle.rt_template.specs.Separate.{AreSeparateStrips}
-use Rattle.rt_template.specs.Across.{strips_of, extent_limit, width_wanted, space_wanted, IsKeptRightOf, InAcross, row_across, MeetsAcross, IsLeastAcross}
+use Rattle.rt_template.specs.Across.{strips_of, width_wanted, space_wanted, IsKeptRightOf, InAcross, row_across, MeetsAcross, IsLeastAcross}
 use Rattle.rt_islands.specs.declared.item.Item.{Item}
 use Rattle.rt_islands.specs.declared.line.Line.{Line}
 use Rattle.rt_islands.specs.Items.{item_at, IsHeldOff}
@@ -140,7 +141,7 @@ module _ (job : Job) (apart : AreSeparateStrips (strips_of job)) (source : IsMea
         (end_reached _ (value_at line.starts.items i) _ (item_at items i).size _ (rights i) (least.ends.each i (item i s))
         (subst (λ z. (value_at line.starts.items i +ℤ (item_at items i).size) ≤ℤ z) (sym width) (least.least.arranged.ends i (item i s))))
     meets_name Zero s = at_least_meets at Width (pos 0) (from_equal _ _ _ width least.least.arranged.extent_from_zero)
-    meets_name Top s = at_most_meets at Width extent_limit (to_equal _ _ _ width least.least.within)
+    meets_name Top s = at_most_meets at Width EXTENT_LIMIT (to_equal _ _ _ width least.least.within)
     meets_name (Wide i) s =
         beyond_meets at (L i) (R i) (width_wanted job i)
         (end_beyond _ _ _ _ _ _ (lefts i) (rights i) (least.ends.each i (item i s)) (see i (item i s)).wanted.size)

@@ -156,22 +156,3 @@ module _ (items : List Item) (i : ℕ) (rows : List Difference) where
           le_below : (h n j : ℕ) → h < n → n ≤ j → h < j
           le_below h n j p q = omega arith
       high_of r (inr a) = inl a.extent
-
--- before the loop there is none
-pub no_rows : (items : List Item) → AreRowsBefore items 0 []
-no_rows items = record {
-  sound = λ row c. absurd (none c.0 c.1);
-  complete = λ row q. absurd (none row.low q.1);
-}
-  where
-    none : (k : ℕ) → k < 0 → ⊥
-    none k l = omega arith
-
-low_of : (items : List Item) (row : Difference) → IsRowOf items row → row.low < length items
-low_of items row (inl a) = a.pair.first
-low_of items row (inr a) = a.item
-
--- at the end of the outer loop all are there
-pub all_rows : (items : List Item) (rows : List Difference) → AreRowsBefore items (length items) rows → AreRowsOf items rows
-all_rows items rows h =
-    same_exactly rows (λ r. IsRowOf items r × (r.low < length items)) (IsRowOf items) h (λ r p. p.0) (λ r q. (q, low_of items r q))

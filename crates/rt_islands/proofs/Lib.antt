@@ -7,4 +7,3 @@ pub mod Across
 pub mod Upwards
 pub mod Columns
 pub mod Written
-pub mod Trial

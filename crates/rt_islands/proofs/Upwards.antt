@@ -4,6 +4,7 @@ use Rattle.std.proofs.lemmas.Int.{ints}
 use mathlib.Core.Logic.{inl}
 use Rattle.rt_cells.specs.Line.{Within}
 use Rattle.rt_path.specs.Least.{value_at}
+use Rattle.rt_rows.specs.declared.positions.TheConstants.{EXTENT_LIMIT}
 use Rattle.rt_rows.specs.declared.row.Var.{Var}
 use Rattle.rt_rows.specs.declared.row.Var.TheVariants.{L, R, B, T, Height}
 use Rattle.rt_rows.specs.declared.name.Name.{Name}
@@ -14,7 +15,7 @@ use Rattle.rt_template.specs.declared.job.Job.{Job}
 use Rattle.rt_template.specs.Strips.{mask_of}
 use Rattle.rt_template.specs.Standing.{IsStrip}
 use Rattle.rt_template.specs.Separate.{AreSeparateStrips}
-use Rattle.rt_template.specs.Across.{strips_of, extent_limit, width_wanted, space_wanted}
+use Rattle.rt_template.specs.Across.{strips_of, width_wanted, space_wanted}
 use Rattle.rt_template.specs.Upwards.{IsKeptAbove, IsChain, IsWholeChain, InUpwards, row_upwards, MeetsUpwards, IsLeastUpwards}
 use Rattle.rt_islands.specs.declared.item.Item.{Item}
 use Rattle.rt_islands.specs.declared.line.Line.{Line}
@@ -116,7 +117,7 @@ module _ (job : Job) (apart : AreSeparateStrips (strips_of job)) (target : IsMea
         (end_reached _ (value_at line.starts.items i) _ (item_at items i).size _ (tops i) (least.ends.each i (item i s))
         (subst (λ z. (value_at line.starts.items i +ℤ (item_at items i).size) ≤ℤ z) (sym height) (least.least.arranged.ends i (item i s))))
     meets_name Zero s = at_least_meets at Height (pos 0) (from_equal _ _ _ height least.least.arranged.extent_from_zero)
-    meets_name Top s = at_most_meets at Height extent_limit (to_equal _ _ _ height least.least.within)
+    meets_name Top s = at_most_meets at Height EXTENT_LIMIT (to_equal _ _ _ height least.least.within)
     meets_name (Tall i) s =
         beyond_meets at (B i) (T i) (pos 1) (one_high (at (B i)) (at (T i)) _ (width_is_length job.target target (mask_of (strips_of job) i)).low (high i s))
     meets_name (Gap i j) s =

@@ -2,4 +2,3 @@ pub mod Items
 pub mod Lines
 pub mod Views
 pub mod Placing
-pub mod Trial

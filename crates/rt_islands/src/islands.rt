@@ -1,3 +1,4 @@
+//! The positions of strips, one axis after the other.
 ghost use Rattle.std.specs.Prelude.{◌≡◌, ◌≤◌, pos, ◌≤ℤ◌, length, IfOk};
 ghost use Rattle.rt_rows.specs.declared.positions.TheConstants.{EXTENT_LIMIT};
 ghost use Rattle.rt_rows.specs.Places.{places};

@@ -1,8 +1,9 @@
+//! A strip as one axis sees it, and which two keep their distance.
 ghost use Rattle.std.specs.Prelude.{◌≡◌, MatchBool};
 ghost use Rattle.rt_islands.specs.Items.{IsItem, HoldsOff, gap_beside};
 
 /// A strip as one axis sees it.
-#[derive(Clone, Copy, Debug, Drop)]
+#[derive(Clone, Copy, Drop)]
 pub struct Item {
     /// The number of its mask.
     pub mask: u32,

@@ -7,6 +7,3 @@ mod line;
 mod views;
 
 pub use islands::place;
-
-#[cfg(test)]
-mod tests;

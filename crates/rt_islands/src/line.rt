@@ -1,3 +1,4 @@
+//! The least positions of items along one axis. No strip and no table is known here.
 ghost use Rattle.std.specs.Prelude.{◌≡◌, ℕ, ◌+◌, ◌<◌, ◌≤◌, ◌^◌, pos, ◌≤ℤ◌, length, All, IfOk, OnOk};
 ghost use Rattle.rt_islands.specs.Items.{IsItem, side_by_side};
 ghost use Rattle.rt_islands.specs.Lines.{IsLeastLine, AreRowsOf, AreRowsBefore, AreLeastValues, AreEnds};

@@ -1,3 +1,4 @@
+//! The strips of a job as each axis sees them.
 ghost use Rattle.std.specs.Prelude.{◌≡◌, ◌<◌, ◌≤◌, length, IfOk};
 ghost use Rattle.rt_tech.specs.Tech.{IsMeasured};
 ghost use Rattle.rt_islands.specs.Items.{IsItem};

@@ -1,3 +1,4 @@
+//! Labels, layouts, and whether a mask covers a cell.
 ghost use Rattle.std.specs.Prelude.{◌<◌, length, map, MatchBool, slice_index_or, []};
 ghost use Rattle.rt_base.specs.Plane.{area};
 ghost use Rattle.rt_cells.specs.Rectangles.{Holds, Covers};

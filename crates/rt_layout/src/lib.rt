@@ -2,7 +2,5 @@
 #![tactic(auto)]
 
 mod layout;
-#[cfg(test)]
-mod tests;
 
 pub use layout::{Label, Layout, covers};

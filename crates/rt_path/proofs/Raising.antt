@@ -75,7 +75,3 @@ step_same cap count rows old mid new index None row in' e same so_far = (
 pub step_raised : (cap : ℤ) (count : ℕ) (rows : List Difference) (old mid new : List ℤ) (index : ℕ) (last : Option ℕ) (number : ℕ) → number < count → room cap new < room cap mid → SoFar cap count rows old mid index last → SoFar cap count rows old new (index + 1) (Some number)
 step_raised cap count rows old mid new index (Some before) number below less so_far = (below, omega (arith, so_far.1))
 step_raised cap count rows old mid new index None number below less so_far = (below, rw (sym so_far.0) less)
-
--- where nothing meets the rows, each number's value is beyond anything in each solution
-pub beyond_anything : (cap : ℤ) (count : ℕ) (rows : List Difference) (number : ℕ) → number < count → HasNoSolution count rows → SomeIsBeyond cap count rows
-beyond_anything cap count rows number below none = (number, below, λ at solves. absurd (none at solves))

@@ -13,10 +13,6 @@ LeadsBack count rows values start number true =
 LeadsBack count rows values start number false =
     (at : ℕ → ℤ) → Solves count rows at → (value_at values start +ℤ at number) ≤ℤ (at start +ℤ value_at values number)
 
--- at the start itself
-pub leads_to_itself : (count : ℕ) (rows : List Difference) (values : List ℤ) (start : ℕ) → LeadsBack count rows values start start false
-leads_to_itself count rows values start at solves = omega (arith, ints)
-
 -- one row further back, which asks for as much as the value
 pub leads_on : (count : ℕ) (rows : List Difference) (values : List ℤ) (start number : ℕ) (row : Difference) (gains : Bool) → Contains rows row → row.high ≡ number → asked values row ≡ value_at values row.high → LeadsBack count rows values start number gains → LeadsBack count rows values start row.low gains
 leads_on count rows values start number row true has same enough leads = λ at solves.

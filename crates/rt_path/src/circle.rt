@@ -1,3 +1,4 @@
+//! Circles of rows with a gain, which no values meet.
 ghost use Rattle.std.specs.Prelude.{◌≡◌, ◌<◌, length, All, Contains, IfSome};
 ghost use Rattle.std.specs.Bool.{OnTrue};
 ghost use Rattle.rt_path.specs.Least.{IsInReach, IsCap, HasNoSolution};

@@ -1,5 +1,6 @@
+//! Difference rows.
 /// A difference row: the value at `high` is at least the value at `low` plus `by`. Values are target steps.
-#[derive(Clone, Copy, Debug, PartialEq, Eq, Drop)]
+#[derive(Clone, Copy, Drop)]
 pub struct Difference {
     /// The number that the row counts from.
     pub low: u32,

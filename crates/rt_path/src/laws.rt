@@ -1,3 +1,4 @@
+//! What holds of solutions.
 ghost use Rattle.std.specs.Prelude.{◌≡◌, ◌<◌, ℕ, ℤ, pos, ◌≤ℤ◌, List, All};
 ghost use Rattle.rt_path.specs.declared.difference.Difference.{Difference as Row};
 ghost use Rattle.rt_path.specs.Least.{MeetsDifference, Solves, IsLeastSolution, SomeIsBeyond};

@@ -1,3 +1,4 @@
+//! The least values, raised round by round.
 ghost use Rattle.std.specs.Prelude.{◌≡◌, ◌<◌, length, All, IfOk, MatchOption, MatchBool};
 ghost use Rattle.rt_path.specs.Least.{IsInReach, IsCap, IsLeastSolution, SomeIsBeyond};
 ghost use Rattle.rt_path.specs.Rounds.{IsUnder, IsBetween, AfterRow, AfterRound};

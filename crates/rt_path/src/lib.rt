@@ -11,6 +11,3 @@ pub use difference::Difference;
 pub use laws::{all_met_solves, beyond_is_not_within, least_solution_is_one, solution_meets_all};
 pub use least::least_values;
 pub use reach::are_in_reach;
-
-#[cfg(test)]
-mod tests;

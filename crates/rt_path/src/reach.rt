@@ -1,3 +1,4 @@
+//! Which rows the least values can be found of.
 ghost use Rattle.std.specs.Prelude.{MatchBool, All};
 ghost use Rattle.rt_path.specs.Least.{IsInReach};
 

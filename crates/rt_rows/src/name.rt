@@ -1,5 +1,6 @@
+//! The names of rows.
 /// The name of a row of a template, with the numbers of its strips. (This project's own.)
-#[derive(Clone, Copy, Debug, PartialEq, Eq, Drop)]
+#[derive(Clone, Copy, Drop)]
 pub enum Name {
     /// A strip begins at 0 or after it.
     Lo(u32),

@@ -1,5 +1,6 @@
+//! Rows, their terms, and what they speak of.
 /// What a row speaks of. Numbers are of strips, from 0. Values are target steps. (This project's own.)
-#[derive(Clone, Copy, Debug, PartialEq, Eq, Drop)]
+#[derive(Clone, Copy, Drop)]
 pub enum Var {
     /// The left side of a strip.
     L(u32),
@@ -18,7 +19,7 @@ pub enum Var {
 }
 
 /// A whole multiple of a variable.
-#[derive(Clone, Copy, Debug, PartialEq, Eq, Drop)]
+#[derive(Clone, Copy, Drop)]
 pub struct Term {
     /// The variable.
     pub var: Var,
@@ -27,7 +28,7 @@ pub struct Term {
 }
 
 /// A row: the sum of its terms is at least `least`. Units are target steps. (This project's own.)
-#[derive(Clone, Copy, Debug, PartialEq, Eq, Drop)]
+#[derive(Clone, Copy, Drop)]
 pub struct Row {
     /// Up to three terms.
     pub terms: [Option<Term>; 3],

@@ -1,3 +1,4 @@
+//! The strips of separate rectangles, in order.
 ghost use Rattle.std.specs.Prelude.{◌≡◌, map, length, IfOk, OnOk, IsOk, IsPermutation, ◌≤◌};
 ghost use Rattle.rt_tech.specs.declared.table.Tech.{Tech};
 ghost use Rattle.rt_template.specs.Strips.{placed};

@@ -1,3 +1,4 @@
+//! Whether rectangles share cells or sides.
 ghost use Rattle.std.specs.Prelude.{map, MatchBool, ℕ, ◌<◌, ◌≤◌, length};
 ghost use Rattle.rt_base.specs.Plane.{area};
 ghost use Rattle.rt_cells.specs.Rectangles.{ShareCellOrSide};

@@ -16,7 +16,7 @@ use Rattle.rt_template.specs.Standing.{IsStrip, AreOfOneMask, ShareRow, rows_apa
 abbrev pub strips_of : Job → List Placed
 strips_of job = map placed job.strips
 
--- the most that an extent may be, in steps
+-- the most that an extent may be, in steps, as rt_rows has it
 abbrev pub extent_limit : ℤ
 extent_limit = EXTENT_LIMIT
 
@@ -53,7 +53,7 @@ abbrev pub row_across : Job → Name → Row
 row_across job (Lo i) = at_least (L i) (pos 0)
 row_across job (Hi i) = beyond (R i) Width (pos 0)
 row_across job Zero = at_least Width (pos 0)
-row_across job Top = at_most Width extent_limit
+row_across job Top = at_most Width EXTENT_LIMIT
 row_across job (Wide i) = beyond (L i) (R i) (width_wanted job i)
 row_across job (Gap i j) = beyond (R i) (L j) (space_wanted job i)
 row_across job (Tall i) = at_least Width (pos 0)

@@ -1,6 +1,7 @@
 -- The template upwards, at the columns that were found across.
 use Rattle.std.specs.Prelude.{◌≡◌, ℕ, ℤ, pos, ◌+ℤ◌, ◌≤ℤ◌, ◌<ℤ◌, ◌⊎◌}
 use Rattle.rt_cells.specs.Line.{gap_of, Within}
+use Rattle.rt_rows.specs.declared.positions.TheConstants.{EXTENT_LIMIT}
 use Rattle.rt_rows.specs.declared.row.Var.{Var}
 use Rattle.rt_rows.specs.declared.row.Var.TheVariants.{L, R, B, T, Height}
 use Rattle.rt_rows.specs.declared.row.Row.{Row}
@@ -10,7 +11,7 @@ use Rattle.rt_rows.specs.Rows.{MeetsRow, at_least, at_most, beyond}
 use Rattle.rt_template.specs.declared.job.Job.{Job}
 use Rattle.rt_template.specs.Strips.{bottom_of, top_of}
 use Rattle.rt_template.specs.Standing.{IsStrip, AreOfOneMask, StandsOn, Touch, IsClimbed}
-use Rattle.rt_template.specs.Across.{strips_of, extent_limit, width_wanted, space_wanted}
+use Rattle.rt_template.specs.Across.{strips_of, width_wanted, space_wanted}
 
 module _ (job : Job) (columns : Var → ℤ) where
   -- strip i covers the column in the drawing
@@ -77,7 +78,7 @@ module _ (job : Job) (columns : Var → ℤ) where
   row_upwards (Lo i) = at_least (B i) (pos 0)
   row_upwards (Hi i) = beyond (T i) Height (pos 0)
   row_upwards Zero = at_least Height (pos 0)
-  row_upwards Top = at_most Height extent_limit
+  row_upwards Top = at_most Height EXTENT_LIMIT
   row_upwards (Tall i) = beyond (B i) (T i) (pos 1)
   row_upwards (Gap i j) = beyond (T i) (B j) (space_wanted job i)
   row_upwards (Run i j) = beyond (B i) (T j) (width_wanted job i)

@@ -1,3 +1,4 @@
+//! Strips, and what is to be moved.
 use rt_base::{List, Rect};
 use rt_tech::Tech;
 

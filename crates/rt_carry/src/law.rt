@@ -1,6 +1,0 @@
-ghost use Rattle.rt_carry.specs.Carried.{DrawingsBreakNoRule};
-
-/// Positions that meet both templates of separate strips draw a layout that breaks no target rule, in database units.
-pub fn drawings_break_no_rule()
-    ensures { DrawingsBreakNoRule }
-{}
