@@ -19,7 +19,8 @@ use Rattle.gds_flat.specs.Walking.{name_at, names_at, IsFirst, AreMarked, IsCirc
 use Rattle.gds_flat.specs.Depths.{IsTree, IsDepthOf}
 use Rattle.gds_flat.specs.Drawings.{IsAcceptedWalk}
 use Rattle.gds_flat.specs.Refused.{elements_along, IsSound, Accepted, HasCycle, IsTooDeep, FlatRefused, refusal_of, refusal_to}
-use Rattle.gds_flat.proofs.Entries.{mapped, mapped_from, entry_in, in_entry}
+use Rattle.gds_flat.proofs.Entries.{entry_in, in_entry}
+use Rattle.rt_cells.proofs.Lists.{mapped, mapped_from}
 use Rattle.gds_flat.proofs.Going.{chain_ends}
 use Rattle.std.proofs.Common.{tests}
 use Rattle.gds_flat.proofs.Coming.{first_within, all_entries}

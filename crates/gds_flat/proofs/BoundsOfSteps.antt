@@ -19,7 +19,8 @@ use Rattle.gds_flat.specs.Items.{Drawing, area_of, note_at, Piece, drawing_moved
 use Rattle.gds_flat.specs.Drawn.{drawing_of, piece_of, pieces_in}
 use Rattle.gds_flat.specs.Building.{SpotWithin, DrawingWithin, PieceWithin, most_shift, most_reach}
 use Rattle.gds_flat.proofs.Coming.{entry_is}
-use Rattle.gds_flat.proofs.Entries.{entry_in, mapped}
+use Rattle.gds_flat.proofs.Entries.{entry_in}
+use Rattle.rt_cells.proofs.Lists.{mapped}
 use Rattle.gds_flat.proofs.Leading.{rem_none}
 
 -- ---- parts and products

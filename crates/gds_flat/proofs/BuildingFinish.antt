@@ -24,7 +24,8 @@ use Rattle.gds_flat.specs.Depths.{IsTree, PlaceOnly}
 use Rattle.gds_flat.specs.Building.{CanBeDrawn, CanBeListed}
 use Rattle.gds_flat.proofs.Going.{IsPlaced, placed}
 use Rattle.gds_flat.proofs.Coming.{all_entries}
-use Rattle.gds_flat.proofs.Entries.{entry_in, mapped}
+use Rattle.gds_flat.proofs.Entries.{entry_in}
+use Rattle.rt_cells.proofs.Lists.{mapped}
 use Rattle.gds_flat.proofs.Ranking.{IsTurn, places_before}
 
 -- ---- what is reached

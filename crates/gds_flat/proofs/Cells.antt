@@ -26,7 +26,7 @@ use Rattle.gds_flat.specs.Items.Drawing.{area_of, note_at}
 use Rattle.gds_flat.specs.Items.PiecesOf.{none as no_pieces, own as own_pieces, placed as placed_pieces}
 use Rattle.gds_flat.specs.Drawn.{IsDrawable, AreDrawable}
 use Rattle.gds_flat.specs.Drawings.{Shows, OneShows}
-use Rattle.gds_flat.proofs.Entries.{mapped, mapped_from}
+use Rattle.rt_cells.proofs.Lists.{mapped, mapped_from}
 use Rattle.gds_flat.proofs.PiecesOne.{ends_one}
 
 shows_left : (a b : List Piece) (m : ℕ) (cell : ℤ × ℤ) → OneShows a m cell → OneShows (a ++ b) m cell

@@ -15,7 +15,8 @@ use Rattle.gds_flat.specs.declared.walk.Walk.{Walk}
 use Rattle.gds_flat.specs.Reach.Order.{done}
 use Rattle.gds_flat.specs.Reach.{Name, name_of, elements_of, target, references, Refers}
 use Rattle.gds_flat.specs.Walking.{name_at, names_at, elements_at, IsFirst, opens, taken, elements_left, agenda, LeadsOn, AreMarked, IsTakenBut, AreRanked, IsCircle, IsChain, HasCome, IsWalk, HasWalked}
-use Rattle.gds_flat.proofs.Entries.{last_entry, entry_in, in_entry, mapped}
+use Rattle.gds_flat.proofs.Entries.{last_entry, entry_in, in_entry}
+use Rattle.rt_cells.proofs.Lists.{mapped}
 use Rattle.gds_flat.proofs.Marking.{mark_open, mark_done}
 use Rattle.gds_flat.proofs.Going.{IsPlaced, placed, not_among, leads_known, leads_new, agenda_more, opens_more, names_more, chain_more, chain_less, circle_found, ranked_more, taken_last, taken_front, taken_more, taken_pending}
 

@@ -18,7 +18,7 @@ use Rattle.gds_flat.specs.Items.{Piece, DrawingIsNear, DrawingIsFar, FirstFar, m
 use Rattle.gds_flat.specs.Drawn.{drawing_of, piece_of, pieces_in}
 use Rattle.gds_flat.specs.Items.Drawing.{area_of}
 use Rattle.gds_flat.specs.Drawings.{Shows, OneShows, Draws, rect_of, rect_on, rects_on, AreOnMasks}
-use Rattle.gds_flat.proofs.Entries.{mapped, mapped_from}
+use Rattle.rt_cells.proofs.Lists.{mapped, mapped_from}
 use Rattle.gds_flat.proofs.Cells.{same_area, no_note}
 
 -- the first items with one more

@@ -55,26 +55,6 @@ places_differ xs i j x y a b ne e =
     let c : slice_get xs j ≡ Some x = subst P e a in
     let same : x ≡ y = cc in ne same
 
--- what a mapped list contains, and what it comes from
-pub mapped : {X Y : Type 0} (f : X → Y) (xs : List X) (x : X) → Contains xs x → Contains (map f xs) (f x)
-mapped f [] x at = absurd (omega (arith, at.1))
-mapped {Y = Y} f (y ∷ xs) x at =
-    ⊎_elim (λ h. ⊎_elim (λ none. absurd (omega (arith, none.1)))
-    (λ e. let P : Y → Type 0 = λ z. Contains (map f (y ∷ xs)) z in
-    subst P (ap f e) (Contains-append_left (f y ∷ []) (map f xs) (f y) (Contains-push [] (f y))))
-    (Contains-push_cases [] y x h))
-    (λ h. Contains-append_right (f y ∷ []) (map f xs) (f x) (mapped f xs x h))
-    (Contains-append_cases (y ∷ []) xs x at)
-
-pub mapped_from : {X Y : Type 0} (f : X → Y) (xs : List X) (b : Y) → Contains (map f xs) b → (x : X) × Contains xs x × (f x ≡ b)
-mapped_from f [] b at = absurd (omega (arith, at.1))
-mapped_from f (y ∷ xs) b at =
-    ⊎_elim (λ h. ⊎_elim (λ none. absurd (omega (arith, none.1)))
-    (λ e. (y, Contains-append_left (y ∷ []) xs y (Contains-push [] y), e))
-    (Contains-push_cases [] (f y) b h))
-    (λ h. let r = mapped_from f xs b h in (r.0, Contains-append_right (y ∷ []) xs r.0 r.1, r.2))
-    (Contains-append_cases (f y ∷ []) (map f xs) b at)
-
 -- an entry is contained, and what is contained is an entry
 pub entry_in : {X : Type 0} (xs : List X) (i : ℕ) (x : X) → slice_get xs i ≡ Some x → Contains xs x
 entry_in [] i x e = cc

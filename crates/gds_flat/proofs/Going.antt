@@ -9,7 +9,7 @@ use Rattle.gds_flat.specs.Reach.Order.{known, new}
 use Rattle.gds_flat.specs.Reach.Missing.{later, within}
 use Rattle.gds_flat.specs.Reach.{Name, is_named, place_from, place_named, structure_named, references, Refers, Chain, StandsBehind, RankedBehind}
 use Rattle.gds_flat.specs.Walking.{name_at, names_at, IsFirst, opens, elements_left, agenda, LeadsOn, IsTakenBut, above, AreTaken, IsCircle, IsChain}
-use Rattle.gds_flat.proofs.Entries.{mapped, mapped_from}
+use Rattle.rt_cells.proofs.Lists.{mapped, mapped_from}
 
 -- the structure that a name leads to
 pub record IsPlaced (library : List Structure) (name : Name) (k : ℕ) (s : Structure) : Type 0 where

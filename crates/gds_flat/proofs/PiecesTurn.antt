@@ -13,7 +13,8 @@ use Rattle.gds_flat.specs.Walking.{name_at, names_at, elements_at}
 use Rattle.gds_flat.specs.Depths.{IsTree}
 use Rattle.gds_flat.specs.Refused.{elements_along}
 use Rattle.gds_flat.specs.Drawn.{IsDrawable, AreDrawable}
-use Rattle.gds_flat.proofs.Entries.{entry_in, mapped}
+use Rattle.gds_flat.proofs.Entries.{entry_in}
+use Rattle.rt_cells.proofs.Lists.{mapped}
 use Rattle.gds_flat.proofs.Going.{IsPlaced, placed}
 use Rattle.gds_flat.proofs.Coming.{all_entries}
 use Rattle.gds_flat.proofs.Ranking.{IsTurn}

@@ -13,7 +13,8 @@ use Rattle.gds_flat.specs.declared.walk.Mark.TheVariants.{Done}
 use Rattle.gds_flat.specs.Reach.{Name, place_named, target, references, Refers, Chain, StandsBehind, RankedBehind, Ranked}
 use Rattle.gds_flat.specs.Walking.{name_at, names_at, elements_at, IsFirst, AreMarked}
 use Rattle.gds_flat.specs.Depths.{IsTree, IsRankOf, PlaceOnly, IsDepthOf, AreDepths, IsDeepest}
-use Rattle.gds_flat.proofs.Entries.{entry_in, in_entry, mapped, mapped_from, pushed_entry}
+use Rattle.gds_flat.proofs.Entries.{entry_in, in_entry, pushed_entry}
+use Rattle.rt_cells.proofs.Lists.{mapped, mapped_from}
 use Rattle.gds_flat.proofs.Going.{IsPlaced, placed}
 use Rattle.gds_flat.proofs.Coming.{finish_first, first_within, elements_read}
 

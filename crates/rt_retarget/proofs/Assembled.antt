@@ -6,7 +6,7 @@ use Rattle.rt_cells.specs.Rectangles.{IsNonempty}
 use Rattle.rt_cells.proofs.Times.{times_lt}
 use Rattle.gds_stream.specs.declared.library.Library.{Library}
 use Rattle.gds_stream.specs.Contents.{Stream}
-use Rattle.gds_lawful.proofs.LawfulValues.{stream_is_lawful}
+use Rattle.gds_stream_laws.proofs.LawfulValues.{stream_is_lawful}
 use Rattle.rt_rows.specs.declared.row.Var.{Var}
 use Rattle.rt_rows.specs.declared.row.Var.TheVariants.{L, R, B, T}
 use Rattle.rt_rows.specs.declared.name.Name.TheVariants.{Wide, Tall}

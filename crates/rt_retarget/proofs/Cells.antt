@@ -6,7 +6,7 @@ use Rattle.rt_base.specs.declared.plane.Point.{Point}
 use Rattle.gds_stream.specs.declared.library.Element.{Element}
 use Rattle.gds_stream.specs.declared.library.Element.TheVariants.{Boundary, Path, Sref, Aref, Label, BoxShape}
 use Rattle.gds_stream.specs.declared.library.Structure.{Structure}
-use Rattle.gds_lawful.specs.Lawful.{IsPolygon, HasPoints, IsLawfulStructure}
+use Rattle.gds_stream_laws.specs.Lawful.{IsPolygon, HasPoints, IsLawfulStructure}
 use Rattle.gds_slabs.specs.Polygon.{IsClosed}
 use Rattle.gds_flat.specs.Reach.{Name, is_named, structure_named}
 use Rattle.gds_flat.specs.Reach.Order.{known, new}

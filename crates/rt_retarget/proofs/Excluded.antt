@@ -4,7 +4,7 @@ use Rattle.rt_layout.specs.declared.layout.Layout.{Layout as FlatLayout}
 use Rattle.gds_flat.specs.Refused.{IsFlattened}
 use Rattle.gds_flat.specs.Laws.{AreAlike}
 use Rattle.gds_flat.proofs.Flattening.{one_flat}
-use Rattle.gds_decided.proofs.Refusals.{not_refused as flattened_not_refused}
+use Rattle.gds_flat_laws.proofs.Refusals.{not_refused as flattened_not_refused}
 use Rattle.gds_stream.specs.declared.library.Library.{Library}
 use Rattle.gds_stream.proofs.Telling.{one_library, nowhere}
 use Rattle.rt_base.specs.declared.plane.Cell.{Cell}

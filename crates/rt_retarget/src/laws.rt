@@ -1,18 +1,18 @@
 ghost use Rattle.rt_retarget.specs.Exclusion.{DoneIsSound, DoneIsThin, StrayIsSound, StrayIsNotDone, NotBuiltIsNotThin, NoStreamIsAlone, UnflattenedIsAlone};
 
-/// A law for callers: files whose cell is moved are never refused for a broken rule. With `strays_are_alone`, `SourceRule`
+/// Law: files whose cell is moved are never refused for a broken rule. With `strays_are_alone`, `SourceRule`
 /// comes exactly where the files are thin input and a rule is broken, want of memory aside.
 pub fn done_is_sound()
     ensures { DoneIsSound }
 {}
 
-/// A law for callers: files whose cell is moved are thin input. So are those that are refused for a broken rule, by that
+/// Law: files whose cell is moved are thin input. So are those that are refused for a broken rule, by that
 /// answer's own clause.
 pub fn done_is_thin()
     ensures { DoneIsThin }
 {}
 
-/// A law for callers: files whose sizes are for devices that aren't there are neither refused for a broken rule nor moved.
+/// Law: files whose sizes are for devices that aren't there are neither refused for a broken rule nor moved.
 /// So `BadSizes` for them comes exactly where the files are thin input that breaks no rule and has such sizes, want of
 /// memory aside.
 pub fn strays_are_alone()
@@ -20,20 +20,20 @@ pub fn strays_are_alone()
     ensures not_done { StrayIsNotDone }
 {}
 
-/// A law for callers: what is refused as not built is no thin input. So `NotBuilt` and the answers for thin input exclude
+/// Law: what is refused as not built is no thin input. So `NotBuilt` and the answers for thin input exclude
 /// each other.
 pub fn not_built_is_not_thin()
     ensures { NotBuiltIsNotThin }
 {}
 
-/// A law for callers: files whose source is no stream are neither thin input nor refused as not built. So `BadStream` comes
+/// Law: files whose source is no stream are neither thin input nor refused as not built. So `BadStream` comes
 /// exactly where the tables and the sizes file are valid and ask for what is built, and the source is no stream, want of
 /// memory aside.
 pub fn no_stream_is_alone()
     ensures { NoStreamIsAlone }
 {}
 
-/// A law for callers: files whose cell isn't flattened are neither thin input nor refused as not built, and their source is a
+/// Law: files whose cell isn't flattened are neither thin input nor refused as not built, and their source is a
 /// stream. So `Unflattened` comes exactly where the files before it are valid and ask for what is built, the source is a stream,
 /// and its cell is refused, want of memory aside.
 pub fn unflattened_is_alone()

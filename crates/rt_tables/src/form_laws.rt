@@ -4,7 +4,7 @@ ghost use Rattle.rt_tech.specs.declared.table.Tech.{Tech};
 ghost use Rattle.rt_tech.specs.Tech.{mask_count};
 ghost use Rattle.rt_tables.specs.Forms.{HaveSameForm};
 
-/// A law for callers: having one form goes both ways, and two tables of one form have as many masks, with the same
+/// Law: having one form goes both ways, and two tables of one form have as many masks, with the same
 /// roles in order.
 pub fn tables_of_one_form_agree()
     ensures back { (s t : Tech) → HaveSameForm s t → HaveSameForm t s }

@@ -5,17 +5,17 @@ ghost use Rattle.rt_tech.specs.Tech.{IsValidTech};
 ghost use Rattle.rt_tables.specs.Tables.{IsTechOf, HasTableFault};
 ghost use Rattle.rt_keys.specs.declared.error.TableError.{TableError};
 
-/// A law for callers: a table that is read is in order.
+/// Law: a table that is read is in order.
 pub fn a_table_read_is_valid()
     ensures { (which : Which) (bytes : ListValue ℕ) (t : Tech) → IsTechOf which bytes t → IsValidTech t }
 {}
 
-/// A law for callers: bytes are one table at most.
+/// Law: bytes are one table at most.
 pub fn one_table_is_read()
     ensures { (which : Which) (bytes : ListValue ℕ) (t u : Tech) → IsTechOf which bytes t → IsTechOf which bytes u → t ≡ u }
 {}
 
-/// A law for callers: bytes that are a table have no fault.
+/// Law: bytes that are a table have no fault.
 pub fn a_table_has_no_fault()
     ensures { (which : Which) (bytes : ListValue ℕ) (t : Tech) (error : TableError) → IsTechOf which bytes t → HasTableFault which bytes error → ⊥ }
 {}

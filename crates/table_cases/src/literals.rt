@@ -123,7 +123,10 @@ fn says(tech: &Tech, said: &Said) -> bool {
 
 // Whether the text is read as a table that says this.
 fn is_read(alloc: Global, parts: &[&str], which: Which, said: &Said) -> Result<bool, AllocError> {
-    let text = edited(alloc, parts, 0, parts[0])?;
+    let Some(head) = parts.first() else {
+        return Ok(false);
+    };
+    let text = edited(alloc, parts, 0, head)?;
     let read = read_tech(alloc, text.as_bytes(), which);
     Ok(is_said(&read, said))
 }

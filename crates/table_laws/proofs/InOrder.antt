@@ -23,6 +23,7 @@ use Rattle.rt_keys.specs.Faults.{◌or_else◌, within, wanted, unwanted, each}
 use Rattle.rt_keys.specs.Indexes.{indexed}
 use Rattle.rt_keys.specs.Names.{named, is_first}
 use Rattle.rt_keys.specs.Numbers.{number_fault}
+use Rattle.rt_tables.proofs.ValidMasks.{found_first}
 use Rattle.rt_tables.proofs.Clear.{test_holds, or_parts, within_clear, Follows, each_follows, all_follow, called_apart}
 use Rattle.rt_tables.proofs.Limits.{number_limits, length_limits}
 use Rattle.table_laws.specs.Order.{IsWish, IsDeviceKind, IsMirror, AreInOrder}
@@ -63,11 +64,6 @@ unfolding wish_fault
 wish_in_order target some entry h =
     let (long, wide) = or_parts _ _ h in
     record { length = length_limits (in_target target) (codes "length") entry some long; width = length_limits (in_target target) (codes "width") entry some wide }
-
--- the entry stands at the place of the first one like it
-found_first : (place : ℕ) (found : Option ℕ) → is_first place found ≡ true → found ≡ Some place
-found_first place None h = cc
-found_first place (Some n) h = let same : n ≡ place = grind (arith, nat_tests) in ap (λ k. Some k) same
 
 -- a kind that is found by its name has that name, and stands at its number
 found_kind : (from : ℕ) (name : List ℕ) (kinds : List Kind) (n : ℕ) (kind : Kind) → kind_from from name kinds ≡ Some (n, kind)

@@ -6,7 +6,7 @@ use Rattle.gds_grammar.specs.Grammar.{Grammar, In}
 use Rattle.gds_grammar.proofs.Following.{codes}
 use Rattle.gds_grammar.proofs.GrammarLaws.{is_in_from}
 use Rattle.gds_grammar.proofs.Last.{types, types_all}
-use Rattle.gds_lawful.specs.Values.{AreOf}
+use Rattle.gds_stream_laws.specs.Values.{AreOf}
 
 of_all : (allowed : List ℕ) (items : List Item) → All (Contains allowed) (codes items) → AreOf allowed items
 of_all allowed [] all = tt

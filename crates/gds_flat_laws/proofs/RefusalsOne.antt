@@ -12,9 +12,9 @@ use Rattle.gds_flat.specs.Items.{Piece, DrawingIsNear, FirstFar}
 use Rattle.gds_flat.specs.Refused.{elements_along, HasCycle, IsTooDeep, IsFaulty, IsTooMany, IsTooFar, FlatRefused, refusal_of}
 use Rattle.gds_flat.proofs.Sequences.{one_order, no_order_and_missing, one_missing}
 use Rattle.gds_flat.proofs.PiecesOne.{pieces_one}
-use Rattle.gds_decided.specs.Agreement.{IsCyclic, AreOneRefusal}
-use Rattle.gds_decided.proofs.Refusals.{sound_and_cycle, shallow_and_deep, accepted_and_faulty, flattened_and_many}
-use Rattle.gds_decided.proofs.FaultsOne.{first_one, first_fault_one}
+use Rattle.gds_flat_laws.specs.Agreement.{IsCyclic, AreOneRefusal}
+use Rattle.gds_flat_laws.proofs.Refusals.{sound_and_cycle, shallow_and_deep, accepted_and_faulty, flattened_and_many}
+use Rattle.gds_flat_laws.proofs.FaultsOne.{first_one, first_fault_one}
 
 -- why a structure is refused
 data Cause (library : List Structure) (top : Name) (tech : Tech) (error : FlatError) : Type 0 where

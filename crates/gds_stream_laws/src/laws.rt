@@ -4,7 +4,7 @@ ghost use Rattle.gds_stream.specs.declared.library.Library.{Library};
 ghost use Rattle.gds_stream.specs.declared.cell.Flat.{Flat};
 ghost use Rattle.gds_stream.specs.Contents.{Stream};
 ghost use Rattle.gds_stream.specs.Written.{written, FitsWriter, OneCell};
-ghost use Rattle.gds_lawful.specs.Lawful.{IsLawful};
+ghost use Rattle.gds_stream_laws.specs.Lawful.{IsLawful};
 
 /// Law: every library that a stream holds is lawful: names that fit a record, structures of different names that aren't
 /// empty, and elements with as many points as their kinds want. (GDSII Release 6.)

@@ -6,15 +6,15 @@ ghost use Rattle.gds_flat.specs.declared.error.FlatError.{FlatError};
 ghost use Rattle.gds_flat.specs.declared.error.FlatError.TheVariants.{OutOfMemory};
 ghost use Rattle.gds_flat.specs.Reach.{Name};
 ghost use Rattle.gds_flat.specs.Refused.{IsFlattened, FlatRefused};
-ghost use Rattle.gds_decided.specs.Agreement.{AreOneRefusal};
+ghost use Rattle.gds_flat_laws.specs.Agreement.{AreOneRefusal};
 
-/// A law: a structure of a library that is flattened isn't refused, but for want of memory. (This project's own.)
+/// Law: a structure of a library that is flattened isn't refused, but for want of memory. (This project's own.)
 pub fn flattened_is_not_refused()
     ensures { (library : List Part) (top : Name) (tech : Tech) (layout : Layout) (error : FlatError)
         → IsFlattened library top tech layout → FlatRefused library top tech error → error ≢ OutOfMemory → ⊥ }
 {}
 
-/// A law: a structure of a library has one refusal at most by a table, but for want of memory; where it is that of a circle, the
+/// Law: a structure of a library has one refusal at most by a table, but for want of memory; where it is that of a circle, the
 /// circle may be another. (This project's own.)
 pub fn one_refusal()
     ensures { (library : List Part) (top : Name) (tech : Tech) (a b : FlatError) → FlatRefused library top tech a

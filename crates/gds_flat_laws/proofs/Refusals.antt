@@ -15,7 +15,7 @@ use Rattle.gds_flat.specs.Items.{Piece, Pieces, DrawingIsNear}
 use Rattle.gds_flat.specs.Refused.{elements_along, IsReached, Accepted, HasCycle, IsFaulty, IsTooMany, IsTooFar, FlatRefused, IsFlattened}
 use Rattle.gds_flat.proofs.Sequences.{one_order, no_order_and_missing, acyclic_has_none}
 use Rattle.gds_flat.proofs.PiecesOne.{pieces_one}
-use Rattle.gds_decided.proofs.Faults.{fine_and_fault}
+use Rattle.gds_flat_laws.proofs.Faults.{fine_and_fault}
 
 -- what holds of all elements of a list holds of the one between two parts
 pub all_between : {X : Type 0} (P : X → Type 0) (xs before behind : List X) (x : X) → xs ≡ before ++ x ∷ behind → All P xs → P x

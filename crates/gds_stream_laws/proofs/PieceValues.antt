@@ -17,9 +17,9 @@ use Rattle.gds_stream.specs.declared.library.Structure.{Structure}
 use Rattle.gds_stream.specs.Contents.{pieces, pieces_from, element_of, elements_in, structure_of, library_of}
 use Rattle.gds_stream.specs.Gives.{IsOne, structures_in}
 use Rattle.gds_stream.proofs.Holding.{inside}
-use Rattle.gds_lawful.specs.Values.{AreOf, closing_types, AreElements, AreStructures}
-use Rattle.gds_lawful.proofs.Held.{Part, ArePart, joined, held_part, held_one, held_first, one_of_type, are_of_both, are_of_left, are_of_right}
-use Rattle.gds_lawful.proofs.Words.{types_of}
+use Rattle.gds_stream_laws.specs.Values.{AreOf, closing_types, AreElements, AreStructures}
+use Rattle.gds_stream_laws.proofs.Held.{Part, ArePart, joined, held_part, held_one, held_first, one_of_type, are_of_both, are_of_left, are_of_right}
+use Rattle.gds_stream_laws.proofs.Words.{types_of}
 
 -- ---- pieces
 

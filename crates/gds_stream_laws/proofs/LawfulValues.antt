@@ -18,13 +18,13 @@ use Rattle.gds_stream.specs.declared.library.Element.{Element}
 use Rattle.gds_stream.specs.declared.library.Structure.{Structure}
 use Rattle.gds_stream.specs.declared.library.Library.{Library}
 use Rattle.gds_stream.specs.Contents.{held, data_at, element_of, library_of, Stream}
-use Rattle.gds_lawful.specs.Values.{AreOf, closing_types, AreElements, AreStructures}
-use Rattle.gds_lawful.specs.Lawful.{HasPoints, IsLawfulStructure, IsLawful}
-use Rattle.gds_lawful.proofs.Held.{one_of_type, are_of_both, are_of_left, are_of_right}
-use Rattle.gds_lawful.proofs.Words.{types_of}
-use Rattle.gds_lawful.proofs.PieceValues.{kinds, apart, kind_gives, closes_element, no_elements, more_elements, structure_gives, no_structures, more_structures, library_gives}
-use Rattle.gds_lawful.proofs.PointCounts.{polygon, two_or_more, three_points}
-use Rattle.gds_lawful.proofs.Contexts.{split, no_items, both, Single, single, is_one, always, always_has, context_left, context_right, Owes, owes}
+use Rattle.gds_stream_laws.specs.Values.{AreOf, closing_types, AreElements, AreStructures}
+use Rattle.gds_stream_laws.specs.Lawful.{HasPoints, IsLawfulStructure, IsLawful}
+use Rattle.gds_stream_laws.proofs.Held.{one_of_type, are_of_both, are_of_left, are_of_right}
+use Rattle.gds_stream_laws.proofs.Words.{types_of}
+use Rattle.gds_stream_laws.proofs.PieceValues.{kinds, apart, kind_gives, closes_element, no_elements, more_elements, structure_gives, no_structures, more_structures, library_gives}
+use Rattle.gds_stream_laws.proofs.PointCounts.{polygon, two_or_more, three_points}
+use Rattle.gds_stream_laws.proofs.Contexts.{split, no_items, both, Single, single, is_one, always, always_has, context_left, context_right, Owes, owes}
 
 -- ---- elements
 

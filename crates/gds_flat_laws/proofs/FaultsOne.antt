@@ -10,7 +10,7 @@ use Rattle.gds_flat.specs.declared.error.Odd.TheVariants.{PathType, PathWidth, B
 use Rattle.gds_flat.specs.declared.error.ElementFault.{ElementFault}
 use Rattle.gds_flat.specs.declared.error.ElementFault.TheVariants.{Unmapped, Oddity, Steps}
 use Rattle.gds_flat.specs.Elements.{rank, FirstOdd, IsUnmapped, IsOddAt, FailsAt, Fine, FaultOf, FirstFault}
-use Rattle.gds_decided.proofs.Faults.{lacks_and_has, pairs_one, unmapped_and_tested, fine_and_fault}
+use Rattle.gds_flat_laws.proofs.Faults.{lacks_and_has, pairs_one, unmapped_and_tested, fine_and_fault}
 
 -- ---- the first odd
 

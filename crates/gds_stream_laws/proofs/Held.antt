@@ -8,7 +8,7 @@ use Rattle.gds_grammar.proofs.GrammarLaws.{is_in_left, is_in_right}
 use Rattle.gds_stream.specs.Contents.{held}
 use Rattle.gds_stream.specs.Gives.{IsOne}
 use Rattle.gds_stream.proofs.Lacking.{or_else, held-append, same_held}
-use Rattle.gds_lawful.specs.Values.{AreOf}
+use Rattle.gds_stream_laws.specs.Values.{AreOf}
 
 -- ---- records of some types
 

@@ -9,8 +9,8 @@ use Rattle.gds_grammar.proofs.Following.{codes}
 use Rattle.gds_grammar.proofs.GrammarLaws.{is_in_left, is_in_right}
 use Rattle.gds_stream.specs.Contents.{held}
 use Rattle.gds_stream.specs.Gives.{IsOne}
-use Rattle.gds_lawful.specs.Values.{AreOf}
-use Rattle.gds_lawful.proofs.PieceValues.{apart, apart_at}
+use Rattle.gds_stream_laws.specs.Values.{AreOf}
+use Rattle.gds_stream_laws.proofs.PieceValues.{apart, apart_at}
 
 -- ---- words taken apart
 

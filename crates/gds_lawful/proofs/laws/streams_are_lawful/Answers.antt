@@ -1,5 +1,0 @@
-use Rattle.gds_lawful.proofs.LawfulValues.{stream_is_lawful}
-use Rattle.gds_lawful.proofs.laws.streams_are_lawful.Goals as goal
-
-pub returns : goal.returns
-returns c = stream_is_lawful
