@@ -1,5 +1,5 @@
 -- The library that the records of a cell hold.
-use Rattle.std.proofs.Common.{◌≡◌, Result, Ok, Err, ◌≢◌, ℕ, replicate, subst, arith, false, eqb, List, [], ◌∷◌, ◌++◌, None, Some, map, All, refl, sym, ap, ◌∙◌, append_assoc}
+use Rattle.std.proofs.Common.{◌≡◌, ◌≢◌, ℕ, replicate, subst, arith, false, eqb, List, [], ◌∷◌, ◌++◌, None, Some, map, All, refl, sym, ap, ◌∙◌, append_assoc}
 use Rattle.std.specs.List.{flat_map, filter_map, AllZip, AllByRecursion}
 use Rattle.std.proofs.lemmas.List.{append-nil}
 use Rattle.std.proofs.lemmas.List.Elements.{All-head, All-tail}
@@ -12,8 +12,7 @@ use Rattle.gds_stream.specs.declared.library.Element.{Element}
 use Rattle.gds_stream.specs.declared.library.Element.TheVariants.{Boundary, Label}
 use Rattle.gds_stream.specs.declared.library.Structure.{Structure}
 use Rattle.gds_stream.specs.declared.library.Library.{Library}
-use Rattle.std.specs.Prelude.{AllPairs, IfOk, OnOk}
-use Rattle.std.specs.Global.{Vec}
+use Rattle.std.specs.Prelude.{AllPairs}
 use Rattle.gds_grammar.specs.Grammar.{In}
 use Rattle.gds_grammar.specs.Format.{stream}
 use Rattle.gds_grammar.specs.Conditions.{starts, trim}
@@ -179,8 +178,6 @@ written_holds cell fits =
       subst (λ (rs : List Item). OneCell (library_of rs) cell) is_same (held_is cell fits),
     )
 
--- so is what a function returned that gives these bytes
-pub is_stream : {E : Type 0} (cell : Flat) (r : Result (Vec ℕ) E) → IfOk r (λ v. v.items ≡ written cell) → OnOk r (FitsWriter cell)
-    → IfOk r (λ v. (library : Library) × Stream v.items library × OneCell library cell)
-is_stream cell (Ok v) bytes fits = subst (λ (items : List ℕ). (library : Library) × Stream items library × OneCell library cell) (sym bytes) (written_holds cell fits)
-is_stream cell (Err e) bytes fits = tt
+-- so it is of these bytes
+pub is_stream : (cell : Flat) (items : List ℕ) → items ≡ written cell → FitsWriter cell → (library : Library) × Stream items library × OneCell library cell
+is_stream cell items same fits = subst (λ (bytes : List ℕ). (library : Library) × Stream bytes library × OneCell library cell) (sym same) (written_holds cell fits)

@@ -1,7 +1,8 @@
 -- What the records of an element hold.
-use Rattle.std.proofs.Common.{◌≡◌, ℕ, ℤ, Bool, true, false, eqb, List, [], ◌∷◌, ◌++◌, take, drop, replicate, Option, Some, None, unwrap_or, Ok, refl, sym, subst, if◌then◌else◌}
+use Rattle.std.proofs.Common.{◌≡◌, ℕ, ℤ, Bool, true, false, eqb, List, [], ◌∷◌, ◌++◌, take, drop, replicate, Option, Some, None, unwrap_or, Ok, refl, sym, ap, ◌∙◌, subst, if◌then◌else◌, eq-eqb}
+use Rattle.std.proofs.lemmas.Bool.{or_parts, ne_eqb, eqb-false}
 use Rattle.std.specs.Int.{w16, from_be_bytes}
-use Rattle.gds_records.specs.declared.types.TheConstants.{BOUNDARY, PATH, SREF, AREF, TEXT, LAYER, DATATYPE, WIDTH, XY, SNAME, COLROW, NODE, TEXTTYPE, STRING, STRANS, MAG, ANGLE, PATHTYPE, BOX, BOXTYPE, BGNEXTN, ENDEXTN}
+use Rattle.gds_records.specs.declared.types.TheConstants.{BOUNDARY, PATH, SREF, AREF, TEXT, LAYER, DATATYPE, WIDTH, XY, SNAME, COLROW, NODE, TEXTTYPE, STRING, STRANS, MAG, ANGLE, PATHTYPE, ELFLAGS, NODETYPE, BOX, BOXTYPE, PLEX, BGNEXTN, ENDEXTN}
 use Rattle.rt_base.specs.declared.plane.Point.{Point}
 use Rattle.gds_records.specs.Records.{Item}
 use Rattle.gds_grammar.specs.Grammar.{maybe}
@@ -13,7 +14,7 @@ use Rattle.gds_stream.specs.declared.library.Element.{Element}
 use Rattle.gds_stream.specs.declared.library.Element.TheVariants.{Boundary, Path, Sref, Aref, Label, BoxShape}
 use Rattle.gds_stream.specs.Contents.{held, two_bytes, four_bytes, points_in, first_of, real_one, place_in, element_of}
 use Rattle.gds_stream.specs.Gives.{IsOne, IsOneOrNone, IsShape}
-use Rattle.gds_stream.specs.Rests.{GivesOutline, HoldsPoints, GivesLine, GivesArray, GivesText}
+use Rattle.gds_stream.specs.Rests.{beside_kind, HoldsArea, HoldsPoints, GivesLine, GivesArray, GivesText}
 use Rattle.gds_stream.proofs.Lacking.{held-append, not_held, or_nothing}
 
 -- records that hold these data of the one type, and nothing of others
@@ -96,15 +97,44 @@ turn_not_there c d items is =
 
 -- ---- elements, each behind its head, or behind what its rest is told
 
-pub outline_is : (offset : ℕ) (n m : ℤ) (points : List Point) (layer datatype xy : List ℕ) (l d x : List Item)
-    → Only LAYER (Some layer) l → Only DATATYPE (Some datatype) d → Only XY (Some xy) x → n ≡ two_bytes layer → m ≡ two_bytes datatype → points ≡ points_in xy
-    → GivesOutline offset (l ++ (d ++ x)) (Some (Boundary offset n m points))
-outline_is offset n m points layer datatype xy l d x is_l is_d is_x is_n is_m are_points =
-    simp (is_n, is_m, are_points, held-append, is_l.held_is, is_d.held_is, is_x.held_is) refl
+-- what the parts of an element of a layer, a type on it and points hold, the whole holds
+pub area_is : (at start kind : ℕ) (body layer number xy : List ℕ) (s h l d x : List Item) (c e : Cursor) → is_in beside_kind kind ≡ false → IsOne at start body s → read head c ≡ Ok (h, e)
+    → Only LAYER (Some layer) l → Only kind (Some number) d → Only XY (Some xy) x → HoldsArea at start kind (s ++ (h ++ (l ++ (d ++ x)))) layer number xy
+unfolding head
+area_is at start kind body layer number xy s h l d x c e apart is_s is_h is_l is_d is_x =
+    let no_h = head_nothing c e h is_h in
+    let flags = or_parts (eqb ELFLAGS kind) (is_in (PLEX ∷ LAYER ∷ XY ∷ []) kind) apart in
+    let plex = or_parts (eqb PLEX kind) (is_in (LAYER ∷ XY ∷ []) kind) flags.1 in
+    let beside = or_parts (eqb LAYER kind) (is_in (XY ∷ []) kind) plex.1 in
+    let not_xy : eqb kind XY ≡ false = ne_eqb kind XY (λ same. eqb-false XY kind (or_parts (eqb XY kind) false beside.1).0 (sym same)) in
+    let no_kind : held kind h ≡ None = not_held head kind c e h is_h (simp (flags.0, plex.0) refl) in
+    let Holds : List Item → Type 0 = λ items. HoldsArea at start kind (items ++ (h ++ (l ++ (d ++ x)))) layer number xy in
+    subst Holds (sym is_s.1) (record {
+      first = record { at = at; code = start; form = is_s.0; body = body };
+      more = h ++ (l ++ (d ++ x));
+      begins = refl;
+      stands = refl;
+      starts = refl;
+      on_layer = simp (held-append, no_h.layer, is_l.held_is) refl;
+      of_kind = simp (held-append, no_kind, is_l.held_is, beside.0, is_d.held_is, eq-eqb kind kind refl) refl;
+      points = simp (held-append, no_h.xy, is_l.held_is, is_d.held_is, not_xy, is_x.held_is) refl;
+    })
 
-pub boundary_is : (at offset : ℕ) (o : Option Element) (body : List ℕ) (s h r : List Item) → IsOne at BOUNDARY body s → Nothing h → offset ≡ at → GivesOutline offset r o → IsShape (s ++ (h ++ r)) o
-boundary_is at offset o body s h r is_s no_h is_offset is =
-    begun at BOUNDARY body s (h ++ r) o refl is_s (λ form. simp (is, is_offset, held-append, no_h.layer, no_h.datatype, no_h.xy) refl)
+-- such an element gives what its records behind the first say
+area_gives : (at start kind : ℕ) (items : List Item) (layer number xy : List ℕ) (o : Option Element) → (here : HoldsArea at start kind items layer number xy) → is_in starts start ≡ true
+    → element_of (here.first ∷ here.more) ≡ o → IsShape items o
+area_gives at start kind items layer number xy o here starts_it gives = record {
+  first = here.first;
+  more = here.more;
+  begins = here.begins;
+  starts = ap (is_in starts) here.starts ∙ starts_it;
+  gives = ap element_of here.begins ∙ gives;
+}
+
+pub boundary_is : (at offset : ℕ) (n m : ℤ) (points : List Point) (items : List Item) (layer number xy : List ℕ) → HoldsArea at BOUNDARY DATATYPE items layer number xy
+    → offset ≡ at → n ≡ two_bytes layer → m ≡ two_bytes number → points ≡ points_in xy → IsShape items (Some (Boundary offset n m points))
+boundary_is at offset n m points items layer number xy here is_offset is_n is_m are_points =
+    area_gives at BOUNDARY DATATYPE items layer number xy _ here refl (simp (here.starts, here.stands, here.on_layer, here.of_kind, here.points, is_offset, is_n, is_m, are_points) refl)
 
 pub points_are : (begin end : Option (List ℕ)) (xy : List ℕ) (b e x : List Item) → Only BGNEXTN begin b → Only ENDEXTN end e → Only XY (Some xy) x → HoldsPoints (b ++ (e ++ x)) xy
 points_are begin end xy b e x is_b is_e is_x = simp (held-append, is_b.held_is, is_e.held_is, is_x.held_is) refl
@@ -160,15 +190,13 @@ label_is at offset o body layer texttype s h l y r is_s no_h is_l is_y is_offset
     begun at TEXT body s (h ++ (l ++ (y ++ r))) o refl is_s
     (λ form. simp (is, is_offset, held-append, no_h.layer, no_h.texttype, no_h.xy, no_h.string, is_l.held_is, is_y.held_is) refl)
 
-pub node_is : (at : ℕ) (body : List ℕ) (s more : List Item) → IsOne at NODE body s → IsShape (s ++ more) None
-node_is at body s more is_s = begun at NODE body s more None refl is_s (λ form. refl)
+pub node_is : (at : ℕ) (items : List Item) (layer number xy : List ℕ) → HoldsArea at NODE NODETYPE items layer number xy → IsShape items None
+node_is at items layer number xy here = area_gives at NODE NODETYPE items layer number xy None here refl (rw here.starts refl)
 
-pub box_is : (at offset : ℕ) (n m : ℤ) (body layer boxtype : List ℕ) (s h l y x : List Item)
-    → IsOne at BOX body s → Nothing h → Only LAYER (Some layer) l → Only BOXTYPE (Some boxtype) y
-    → offset ≡ at → n ≡ two_bytes layer → m ≡ two_bytes boxtype → IsShape (s ++ (h ++ (l ++ (y ++ x)))) (Some (BoxShape offset n m))
-box_is at offset n m body layer boxtype s h l y x is_s no_h is_l is_y is_offset is_n is_m =
-    begun at BOX body s (h ++ (l ++ (y ++ x))) _ refl is_s
-    (λ form. simp (is_offset, is_n, is_m, held-append, no_h.layer, no_h.boxtype, is_l.held_is, is_y.held_is) refl)
+pub box_is : (at offset : ℕ) (n m : ℤ) (items : List Item) (layer number xy : List ℕ) → HoldsArea at BOX BOXTYPE items layer number xy
+    → offset ≡ at → n ≡ two_bytes layer → m ≡ two_bytes number → IsShape items (Some (BoxShape offset n m))
+box_is at offset n m items layer number xy here is_offset is_n is_m =
+    area_gives at BOX BOXTYPE items layer number xy _ here refl (simp (here.starts, here.stands, here.on_layer, here.of_kind, is_offset, is_n, is_m) refl)
 
 pub turn_is : (flags : ℕ) (mag angle : List ℕ) (body : List ℕ) (by to : Option (List ℕ)) (s m a : List Item) → Only STRANS (Some body) s → Only MAG by m → Only ANGLE to a
     → flags ≡ from_be_bytes w16 body → mag ≡ unwrap_or by real_one → angle ≡ unwrap_or to (replicate 8 0) → place_in (s ++ (m ++ a)) ≡ record { flags = flags; mag = mag; angle = angle }

@@ -1,9 +1,11 @@
 -- What the parts of the reader answer, by the rules of the grammar that they read.
-use Rattle.std.specs.Prelude.{◌≡◌, ℕ, ◌+◌, ◌*◌, ◌<◌, ◌≤◌, replicate, ◌==◌, Bool, true, length, List, [], ◌∷◌, ◌++◌, map, Option, Some, None, Result, Ok, Err}
+use Rattle.std.specs.Prelude.{◌≡◌, ℕ, ◌+◌, ◌-◌, ◌*◌, ◌<◌, ◌≤◌, take, drop, replicate, ◌==◌, Bool, true, length, List, [], ◌∷◌, ◌++◌, map, Option, Some, None, Result, Ok, Err}
 use Rattle.gds_records.specs.declared.reading.Part.{Part}
 use Rattle.gds_records.specs.Records.{Item, unit}
 use Rattle.gds_records.specs.Framing.{item_at}
+use Rattle.gds_grammar.specs.declared.cause.Cause.{Cause}
 use Rattle.gds_grammar.specs.declared.cause.Cause.TheVariants.{Unexpected}
+use Rattle.gds_stream.specs.declared.reader.Ahead.{Ahead}
 use Rattle.gds_grammar.specs.Grammar.{Grammar, ◌∣◌}
 use Rattle.gds_grammar.specs.Format.{boundary, path, sref, aref, label, node, box}
 use Rattle.gds_grammar.specs.Conditions.{is_in, starts, is_number, number_count, form_of, trim, AreCountedPoints}
@@ -18,6 +20,25 @@ use Rattle.gds_stream.specs.declared.library.Structure.{Structure}
 use Rattle.std.specs.List.{cons_option}
 use Rattle.gds_stream.specs.Contents.{element_of, elements_in, structure_of, pieces}
 use Rattle.gds_stream.specs.declared.error.StreamError.TheVariants.{At, OutOfMemory}
+
+-- the data of a record that begins at one place and ends at another
+abbrev pub body_between : List ℕ → ℕ → ℕ → List ℕ
+body_between bytes at next = take (next - (at + 4)) (drop (at + 4) bytes)
+
+-- reading at a place of some bytes, before any element and any name
+abbrev pub standing : List ℕ → ℕ → Cursor
+standing bytes at = record { at = at; rest = drop at bytes; kind = None; names = [] }
+
+-- the record at a place, which ends within the bytes
+pub record IsAhead (bytes : List ℕ) (at : ℕ) (a : Ahead) : Type 0 where
+  pub begins : at + 4 ≤ a.next
+  pub ends : a.next ≤ length bytes
+  pub comes : peek (standing bytes at) ≡ Ok (record { at = at; code = a.code; form = a.form; body = body_between bytes at a.next })
+
+-- the record at a place, or why none comes
+abbrev pub Finds : List ℕ → ℕ → Result Ahead Cause → Type 0
+Finds bytes at (Ok a) = IsAhead bytes at a
+Finds bytes at (Err cause) = peek (standing bytes at) ≡ Err (record { place = at; cause = cause })
 
 -- the refusal is the fault, or memory ran out
 abbrev pub IsFault : {A : Type 0} → Result A Fault → StreamError → Type 0

@@ -1,23 +1,34 @@
 -- What is left of an element's records, and of a stream's, behind their first ones, and what it gives.
-use Rattle.std.specs.Prelude.{◌≡◌, ℕ, List, Option, Some}
-use Rattle.gds_records.specs.declared.types.TheConstants.{UNITS, ENDLIB, LAYER, DATATYPE, WIDTH, XY, COLROW, PRESENTATION, STRING, PATHTYPE, BGNEXTN, ENDEXTN}
+use Rattle.std.specs.Prelude.{◌≡◌, ℕ, List, [], ◌∷◌, Option, Some}
+use Rattle.gds_records.specs.declared.types.TheConstants.{UNITS, ENDLIB, ELFLAGS, PLEX, LAYER, WIDTH, XY, COLROW, PRESENTATION, STRING, PATHTYPE, BGNEXTN, ENDEXTN}
 use Rattle.gds_records.specs.Records.{Item}
 use Rattle.gds_grammar.specs.Grammar.{Grammar, ◌‣◌, many, type, maybe}
 use Rattle.gds_grammar.specs.Format as rules
 use Rattle.gds_grammar.specs.Conditions.{trim}
 use Rattle.gds_stream.specs.declared.library.Element.{Element}
-use Rattle.gds_stream.specs.declared.library.Element.TheVariants.{Boundary, Path, Aref, Label}
+use Rattle.gds_stream.specs.declared.library.Element.TheVariants.{Path, Aref, Label}
 use Rattle.gds_stream.specs.declared.library.Library.{Library}
-use Rattle.gds_stream.specs.Contents.{held, data_at, two_bytes, number_at, points_at, first_of, place_in, pathtype_in, width_in, columns_in, rows_in}
+use Rattle.gds_stream.specs.Contents.{held, data_at, two_bytes, points_at, first_of, place_in, pathtype_in, width_in, columns_in, rows_in}
 use Rattle.gds_stream.specs.Gives.{structures_in}
 
--- a polygon from its layer on
-abbrev pub outline : Grammar
-outline = type LAYER ‣ type DATATYPE ‣ type XY
+-- an element of a layer, a type on the layer and points
+abbrev pub area : ℕ → ℕ → Grammar
+area start kind = type start ‣ rules.head ‣ type LAYER ‣ type kind ‣ type XY
 
--- the records give the polygon at the place
-abbrev pub GivesOutline : ℕ → List Item → Option Element → Type 0
-GivesOutline offset items element = element ≡ Some (Boundary offset (number_at LAYER items) (number_at DATATYPE items) (points_at items))
+-- the types of the other records that such an element may hold behind its first
+abbrev pub beside_kind : List ℕ
+beside_kind = ELFLAGS ∷ PLEX ∷ LAYER ∷ XY ∷ []
+
+-- the records begin at the place with one of the first type, and hold these data of a layer, a type on it and points
+pub record HoldsArea (at start kind : ℕ) (items : List Item) (layer number xy : List ℕ) : Type 0 where
+  pub first : Item
+  pub more : List Item
+  pub begins : items ≡ first ∷ more
+  pub stands : first.at ≡ at
+  pub starts : first.code ≡ start
+  pub on_layer : held LAYER more ≡ Some layer
+  pub of_kind : held kind more ≡ Some number
+  pub points : held XY more ≡ Some xy
 
 -- a path from where it says by how much its ends go on
 abbrev pub path_points : Grammar

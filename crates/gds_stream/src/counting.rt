@@ -14,6 +14,7 @@ use gds_records::{
 
 /// Whether a record has as many numbers or points as its type and its element want, and its name isn't empty.
 #[tactic(auto, unfolding(gds_grammar::specs::Tests::counted))]
+#[inline(always)]
 pub fn is_counted(element: Option<u8>, code: u8, body: &[u8]) -> bool
     ensures { (at form : ℕ) → result ≡ counted element (record { at = at; code = code; form = form; body = body.now }) }
 {
@@ -45,6 +46,7 @@ fn number_bytes(code: u8) -> Option<usize>
 }
 
 // Whether the points are as many as the element wants, and a polygon's last one is its first.
+#[inline(always)]
 fn has_points(element: Option<u8>, body: &[u8]) -> bool
     ensures { result ≡ has_points element body.now }
 {
@@ -70,6 +72,7 @@ fn is_closed(body: &[u8]) -> bool
 
 /// Whether a text that is looked at is printable.
 #[tactic(auto, unfolding(gds_grammar::specs::Tests::readable))]
+#[inline(always)]
 pub fn is_readable(code: u8, body: &[u8]) -> bool
     ensures { (at form : ℕ) → result ≡ readable (record { at = at; code = code; form = form; body = body.now }) }
 {

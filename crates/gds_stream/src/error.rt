@@ -7,7 +7,7 @@ use rt_base::OutOfMemory;
 use thiserror::Error;
 
 /// Why bytes give no library.
-#[derive(Clone, Copy, Debug, PartialEq, Eq, Drop, Error)]
+#[derive(Clone, Copy, Debug, Drop, Error)]
 pub enum StreamError {
     /// Up to this byte they begin a stream, and there they don't go on as one. (This project's own.)
     #[error("byte {offset}: {cause}")]

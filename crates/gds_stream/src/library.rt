@@ -5,7 +5,7 @@ ghost use Rattle.gds_stream.specs.Elements.{offset_of, target_of};
 use rt_base::{List, Point, Text};
 
 /// How a reference turns and scales what it places, as the stream says it. (GDSII Release 6: STRANS, MAG and ANGLE.)
-#[derive(Clone, Copy, Debug, PartialEq, Eq, Drop)]
+#[derive(Clone, Copy, PartialEq, Eq, Drop)]
 pub struct Place {
     /// The bits of STRANS: 0x8000 reflects about the x axis; 0 where there is none.
     pub flags: u16,

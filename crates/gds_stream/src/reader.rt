@@ -12,7 +12,7 @@ ghost use Rattle.gds_grammar.specs.Conditions.{is_in, trim, is_number, form_of, 
 ghost use Rattle.gds_grammar.specs.Tests.{counted, readable, is_repeated};
 ghost use Rattle.gds_grammar.specs.Reading as reads;
 ghost use Rattle.gds_grammar.specs.Reading.{start, behind};
-ghost use Rattle.gds_stream.specs.Gives.{Peeks, Sees, Accepts, Takes, IsWithin, Gives, IsOne, IsOneOrNone, Has, AreZeros, IsBehindZeros, IsOther};
+ghost use Rattle.gds_stream.specs.Gives.{Peeks, Sees, Accepts, Takes, IsWithin, Gives, IsOne, IsOneOrNone, Has, AreZeros, IsBehindZeros, IsOther, Finds, body_between};
 
 use crate::counting::{is_counted, is_readable};
 use crate::data::text_of;
@@ -24,13 +24,22 @@ use rt_base::{OutOfMemory, Text};
 use std::alloc::Global;
 use std::marker::Model;
 
-/// Where reading stands in some bytes: the place of the next record, the element that began last, and the names of
-/// the structures before.
+/// The record that comes next: its type, its data type, and the place of the first byte behind it.
+#[derive(Clone, Copy)]
+pub struct Ahead {
+    code: u8,
+    form: u8,
+    next: u64,
+}
+
+/// Where reading stands in some bytes: the place of the next record, what stands there or why no record does, the element
+/// that began last, and the names of the structures before. Each record is framed once, when reading comes to it.
 #[derive(Drop)]
 pub struct Reader<'a> {
     alloc: Global,
     bytes: &'a [u8],
     at: u64,
+    ahead: Result<Ahead, Cause>,
     element: Option<u8>,
     names: IndexSet<Text>,
 }
@@ -38,12 +47,13 @@ pub struct Reader<'a> {
 impl<'a> Model for Reader<'a> {
     ghost use Rattle.std.specs.Prelude.{◌≤◌, length, drop};
     ghost use Rattle.gds_grammar.specs.Reading.{Cursor};
+    ghost use Rattle.gds_stream.specs.Gives.{Finds};
 
     ghost Value = { Cursor };
 
     ghost view = { λ r. record { at = r.at; rest = drop r.at r.bytes.now; kind = r.element; names = r.names.keys } };
 
-    ghost invariant = { λ r. r.at ≤ length r.bytes.now };
+    ghost invariant = { λ r. (r.at ≤ length r.bytes.now) × Finds r.bytes.now r.at r.ahead };
 }
 
 impl<'a> Reader<'a> {
@@ -55,6 +65,7 @@ impl<'a> Reader<'a> {
             alloc,
             bytes,
             at: 0,
+            ahead: look(bytes, 0),
             element: None,
             names: IndexSet::new(alloc),
         }
@@ -82,20 +93,24 @@ impl<'a> Reader<'a> {
     }
 
     /// The next record.
+    #[inline(always)]
     pub fn peek(&self) -> Result<Part<'a>, StreamError>
         ensures next { Peeks self.now result }
         ensures within { IfOk result (λ p. IsWithin p self.now) }
     {
-        if self.at == self.bytes.len() as u64 {
-            return Err(self.fault(Cause::NotClosed));
-        }
-        match next_record(self.bytes, self.at) {
-            Ok(part) => Ok(part),
-            Err(error) => Err(self.fault(cause_of(error))),
+        match self.ahead {
+            Ok(ahead) => Ok(Part {
+                code: ahead.code,
+                form: ahead.form,
+                body: body_of(self.bytes, self.at, ahead.next),
+                next: ahead.next,
+            }),
+            Err(cause) => Err(self.fault(cause)),
         }
     }
 
     /// Whether the next record has one of these types.
+    #[inline(always)]
     pub fn sees(&self, codes: &[u8]) -> Result<bool, StreamError>
         ensures { Sees codes.now self.now result }
     {
@@ -122,6 +137,7 @@ impl<'a> Reader<'a> {
 
     // The next record, where it has one of these types and is as it should be, but for its name.
     #[tactic(auto, using(crate::proofs::Taking::fault_taken))]
+    #[inline(always)]
     fn accepted(&self, codes: &[u8]) -> Result<Part<'a>, StreamError>
         ensures accepts { Accepts codes.now self.now result }
         ensures within { IfOk result (λ p. IsWithin p self.now) }
@@ -140,6 +156,7 @@ impl<'a> Reader<'a> {
     }
 
     /// A record of one of these types.
+    #[inline(always)]
     pub fn take_one(&mut self, codes: &[u8]) -> Result<Part<'a>, StreamError>
         ensures takes { Takes codes.now self.old self.new result }
         ensures kind { IfOk result (λ p. self.new.kind ≡ (if is_in starts p.code then Some p.code else self.old.kind)) }
@@ -157,6 +174,7 @@ impl<'a> Reader<'a> {
 
     /// The data of a record of this type.
     #[tactic(auto, using(crate::proofs::Giving::fault_alone))]
+    #[inline(always)]
     pub fn take(&mut self, code: u8) -> Result<&'a [u8], StreamError>
         ensures gives { Gives (type code) (λ items body. IsOne self.old.at code body.now items) self.old self.new result }
         ensures has { IfOk result (λ body. Has self.old.kind code body.now) }
@@ -168,6 +186,7 @@ impl<'a> Reader<'a> {
 
     /// The data of a record of this type, if the next record is one.
     #[tactic(auto, using(crate::proofs::Giving::fault_choice))]
+    #[inline(always)]
     pub fn maybe(&mut self, code: u8) -> Result<Option<&'a [u8]>, StreamError>
         ensures gives { Gives (grammar.maybe (type code)) (λ items body. IsOneOrNone self.old.at code (option_copied body) items) self.old self.new result }
         ensures numbers { IfOk result (λ found. IfSome found (λ body. OnTrue (is_number code) (length body.now ≡ number_count code * unit (form_of code)))) }
@@ -238,6 +257,7 @@ impl<'a> Reader<'a> {
     }
 
     // Whether no structure before has the name in the record, if one is there. It is among the names from then on.
+    #[inline(always)]
     fn is_new(&mut self, part: &Part<'_>) -> Result<bool, OutOfMemory>
         requires { Readable (item_at self.old.at part.now) }
         ensures { IfOk result (λ new. MatchBool new
@@ -254,12 +274,14 @@ impl<'a> Reader<'a> {
     }
 
     // Goes behind the record, which is the next.
+    #[inline(always)]
     fn advance(&mut self, part: &Part<'_>)
         requires { IsWithin part.now self.old }
         ensures { self.new ≡ record (behind self.old (item_at self.old.at part.now)) { names = self.old.names } }
     {
         self.element = kind_after(self.element, part.code);
         self.at = part.next;
+        self.ahead = look(self.bytes, part.next);
     }
 }
 
@@ -284,6 +306,34 @@ fn first_other(bytes: &[u8]) -> Option<(usize, u8)>
         }
     }
     None
+}
+
+// What comes at a place.
+#[inline(never)]
+fn look(bytes: &[u8], at: u64) -> Result<Ahead, Cause>
+    requires { at ≤ length bytes.now }
+    ensures { Finds bytes.now at result }
+{
+    if at == bytes.len() as u64 {
+        return Err(Cause::NotClosed);
+    }
+    match next_record(bytes, at) {
+        Ok(part) => Ok(Ahead {
+            code: part.code,
+            form: part.form,
+            next: part.next,
+        }),
+        Err(error) => Err(cause_of(error)),
+    }
+}
+
+// The data of the record from a place to another.
+fn body_of(bytes: &[u8], at: u64, next: u64) -> &[u8]
+    requires begins { at + 4 ≤ next }
+    requires ends { next ≤ length bytes.now }
+    ensures { result.now ≡ body_between bytes.now at next }
+{
+    &bytes[at as usize + 4..next as usize]
 }
 
 // The bytes from a place on.

@@ -1,5 +1,6 @@
 //! A stream is read whole.
-ghost use Rattle.std.specs.Prelude.{IfOk, IfErr};
+ghost use Rattle.std.specs.Prelude.{◌≡◌, ℕ, List, IfOk, IfErr};
+ghost use Rattle.gds_grammar.specs.Reading.{start};
 ghost use Rattle.gds_stream.specs.Contents.{Stream};
 ghost use Rattle.gds_stream.specs.Refusals.{IsRefused};
 
@@ -16,8 +17,18 @@ pub fn read_stream(alloc: Global, bytes: &[u8]) -> Result<Library, StreamError>
     ensures fault { IfErr result (λ e. IsRefused bytes.now e) }
 {
     let mut reader = Reader::new(alloc, bytes);
-    let _rest = reader.rest();
-    let library = reader.library()?;
-    reader.zeros()?;
-    Ok(library)
+    reader.whole()
+}
+
+impl<'a> Reader<'a> {
+    // The library that the bytes hold, from whose start on it reads.
+    fn whole(&mut self) -> Result<Library, StreamError>
+        ensures library { (bytes : List ℕ) → self.old ≡ start bytes → IfOk result (λ l. Stream bytes l) }
+        ensures fault { (bytes : List ℕ) → self.old ≡ start bytes → IfErr result (λ e. IsRefused bytes e) }
+    {
+        let _rest = self.rest();
+        let library = self.library()?;
+        self.zeros()?;
+        Ok(library)
+    }
 }

@@ -1,13 +1,14 @@
 //! The seven elements, each as its records stand.
-ghost use Rattle.std.specs.Prelude.{◌≡◌, List, length, Some, None, IfOk, OnOk};
+ghost use Rattle.std.specs.Prelude.{◌≡◌, ◌*◌, List, length, true, false, Some, None, IfOk, OnOk};
 ghost use Rattle.rt_base.specs.Text.{IsText};
-ghost use Rattle.gds_records.specs.Records.{Item};
+ghost use Rattle.gds_records.specs.Records.{Item, unit};
 ghost use Rattle.gds_grammar.specs.Grammar as grammar;
 ghost use Rattle.gds_grammar.specs.Format as rules;
-ghost use Rattle.gds_grammar.specs.Conditions.{trim};
+ghost use Rattle.gds_grammar.specs.Conditions.{trim, is_in, is_number, number_count, form_of};
 ghost use Rattle.gds_stream.specs.Contents.{place_in};
 ghost use Rattle.gds_stream.specs.Gives.{Gives, IsShape, shape};
 ghost use Rattle.gds_stream.specs.Rests as rests;
+ghost use Rattle.gds_stream.specs.Rests.{HoldsArea};
 
 use crate::data::{
     i16_of, i16_or_zero, i32_or_zero, point_of, points_of, real_or, text_of, three_points, u16_of,
@@ -26,6 +27,14 @@ const ONE: [u8; 8] = [0x41, 0x10, 0, 0, 0, 0, 0, 0];
 
 // The real 0.
 const ZERO: [u8; 8] = [0, 0, 0, 0, 0, 0, 0, 0];
+
+// What an element of a layer, a type on the layer and points holds.
+#[derive(Clone, Copy)]
+struct Area<'a> {
+    layer: &'a [u8],
+    kind: &'a [u8],
+    xy: &'a [u8],
+}
 
 impl<'a> Reader<'a> {
     /// One of the seven elements. A node gives none.
@@ -54,30 +63,36 @@ impl<'a> Reader<'a> {
         Ok(())
     }
 
+    // An element of a layer, a type on the layer and points, from its first record on.
+    #[tactic(auto, using(crate::proofs::Giving::steps))]
+    #[inline(always)]
+    fn area(&mut self, start: u8, kind: u8) -> Result<Area<'a>, StreamError>
+        requires apart { is_in rests.beside_kind kind ≡ false }
+        requires number { is_number kind ≡ true }
+        requires two { number_count kind * unit (form_of kind) ≡ 2 }
+        ensures gives { Gives (rests.area start kind) (λ items a. HoldsArea self.old.at start kind items a.layer.now a.kind.now a.xy.now) self.old self.new result }
+        ensures numbers { IfOk result (λ a. (length a.layer.now ≡ 2) × (length a.kind.now ≡ 2)) }
+    {
+        self.take(start)?;
+        self.head()?;
+        let layer = self.take(LAYER)?;
+        let kind = self.take(kind)?;
+        let xy = self.take(XY)?;
+        Ok(Area { layer, kind, xy })
+    }
+
     // A polygon.
-    #[tactic(auto, unfolding(gds_grammar::specs::Format::boundary), using(crate::proofs::Giving::steps))]
+    #[tactic(auto, unfolding(gds_grammar::specs::Format::boundary))]
     fn boundary(&mut self) -> Result<Option<Element>, StreamError>
         ensures { Gives rules.boundary IsShape self.old self.new result }
     {
         let offset = self.place();
-        self.take(BOUNDARY)?;
-        self.head()?;
-        self.outline(offset)
-    }
-
-    // A polygon from its layer on.
-    #[tactic(auto, using(crate::proofs::Giving::steps))]
-    fn outline(&mut self, offset: u64) -> Result<Option<Element>, StreamError>
-        ensures { Gives rests.outline (rests.GivesOutline offset) self.old self.new result }
-    {
-        let layer = self.take(LAYER)?;
-        let datatype = self.take(DATATYPE)?;
-        let xy = self.take(XY)?;
+        let area = self.area(BOUNDARY, DATATYPE)?;
         Ok(Some(Element::Boundary {
             offset,
-            layer: i16_of(layer),
-            datatype: i16_of(datatype),
-            points: points_of(self.alloc(), xy)?,
+            layer: i16_of(area.layer),
+            datatype: i16_of(area.kind),
+            points: points_of(self.alloc(), area.xy)?,
         }))
     }
 
@@ -270,33 +285,25 @@ impl<'a> Reader<'a> {
     }
 
     // A node, which gives no element.
-    #[tactic(auto, unfolding(gds_grammar::specs::Format::node), using(crate::proofs::Giving::steps))]
+    #[tactic(auto, unfolding(gds_grammar::specs::Format::node))]
     fn node(&mut self) -> Result<Option<Element>, StreamError>
         ensures { Gives rules.node IsShape self.old self.new result }
     {
-        self.take(NODE)?;
-        self.head()?;
-        self.take(LAYER)?;
-        self.take(NODETYPE)?;
-        self.take(XY)?;
+        self.area(NODE, NODETYPE)?;
         Ok(None)
     }
 
     // A box.
-    #[tactic(auto, using(crate::proofs::Giving::steps, crate::proofs::Giving::of_box))]
+    #[tactic(auto, using(crate::proofs::Giving::of_box))]
     fn box_shape(&mut self) -> Result<Option<Element>, StreamError>
         ensures { Gives rules.box IsShape self.old self.new result }
     {
         let offset = self.place();
-        self.take(BOX)?;
-        self.head()?;
-        let layer = self.take(LAYER)?;
-        let boxtype = self.take(BOXTYPE)?;
-        self.take(XY)?;
+        let area = self.area(BOX, BOXTYPE)?;
         Ok(Some(Element::BoxShape {
             offset,
-            layer: i16_of(layer),
-            boxtype: i16_of(boxtype),
+            layer: i16_of(area.layer),
+            boxtype: i16_of(area.kind),
         }))
     }
 }

@@ -26,25 +26,26 @@ pub fn write_stream(alloc: Global, cell: &Flat) -> Result<Vec<u8>, OutOfMemory>
     ensures bytes { IfOk result (λ v. v.items ≡ written cell.now) }
     ensures stream { IfOk result (λ v. (library : Library) × Stream v.items library × OneCell library cell.now) }
 {
-    put_cell(alloc, cell)
+    let mut out = Vec::new(alloc);
+    put_cell(alloc, &mut out, cell)?;
+    Ok(out)
 }
 
-// The bytes of a cell, and that it has what it takes to be written.
-pub(crate) fn put_cell(alloc: Global, cell: &Flat) -> Result<Vec<u8>, OutOfMemory>
+// The records of a cell, and that it has what it takes to be written.
+fn put_cell(alloc: Global, out: &mut Vec<u8>, cell: &Flat) -> Result<(), OutOfMemory>
     requires named { 0 < length cell.now.name }
     requires name_short { length cell.now.name ≤ 65530 }
     requires library_short { length cell.now.library ≤ 65530 }
     requires texts_short { All (λ n. length n.text ≤ 65530) cell.now.texts }
-    ensures bytes { IfOk result (λ v. v.items ≡ written cell.now) }
+    ensures bytes { OnOk result (out.new.items ≡ out.old.items ++ written cell.now) }
     ensures fits { OnOk result (FitsWriter cell.now) }
 {
-    let mut out = Vec::new(alloc);
-    put_front(alloc, &mut out, cell)?;
-    put_shapes(&mut out, cell.shapes.as_slice())?;
-    put_notes(alloc, &mut out, cell.texts.as_slice())?;
-    put_record(&mut out, ENDSTR, NO_DATA, &[])?;
-    put_record(&mut out, ENDLIB, NO_DATA, &[])?;
-    Ok(out)
+    put_front(alloc, out, cell)?;
+    put_shapes(out, cell.shapes.as_slice())?;
+    put_notes(alloc, out, cell.texts.as_slice())?;
+    put_record(out, ENDSTR, NO_DATA, &[])?;
+    put_record(out, ENDLIB, NO_DATA, &[])?;
+    Ok(())
 }
 
 // The records up to the first element.
