@@ -3,6 +3,7 @@ use crate::parts::{
     AS_IT_IS, Corners, NO_TURN, ONE, Part, Parts, QUARTER, Turn, flattened, push_parts,
 };
 use crate::shelf::{HERE, push_shelf};
+use gds_stream::Structure;
 use rt_base::Rect;
 use rt_layout::{Label, Layout};
 use std::alloc::Global;
@@ -235,11 +236,16 @@ fn is_drawn(layout: &Layout, sides: &[Sides; 2], spots: &[(i64, i64)]) -> bool {
     }
 }
 
+// Appends the structures of the parts, and the shelf.
+fn push_all(alloc: Global, structures: &mut Vec<Structure>, parts: Parts) -> Result<(), Fail> {
+    push_parts(alloc, structures, parts)?;
+    push_shelf(alloc, structures)
+}
+
 // What A of the parts is drawn as, beside the shelf.
 fn drawn(alloc: Global, parts: Parts) -> Result<Layout, Fail> {
     let mut structures = Vec::new(alloc);
-    push_parts(alloc, &mut structures, parts)?;
-    push_shelf(alloc, &mut structures)?;
+    push_all(alloc, &mut structures, parts)?;
     Ok(flattened(alloc, structures, false)?.ok().ok_or("refused")?)
 }
 

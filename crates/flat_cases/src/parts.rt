@@ -228,11 +228,20 @@ pub(crate) fn flattened(
     structures: Vec<Structure>,
     drop_unlisted: bool,
 ) -> Result<Result<Layout, FlatError>, Fail> {
-    let tech = tech(alloc, drop_unlisted)?;
-    let top = text(alloc, b"A")?;
     let library = library(alloc, structures)?;
+    let tech = tech(alloc, drop_unlisted)?;
+    flattened_by(alloc, &library, &tech)
+}
+
+// What `flatten` answers for A of the library, by the table.
+fn flattened_by(
+    alloc: Global,
+    library: &Library,
+    tech: &Tech,
+) -> Result<Result<Layout, FlatError>, Fail> {
     if !all_drawable(library.structures.as_slice()) || tech.masks.as_slice().len() > 100 {
         return Err("not drawable".into());
     }
-    Ok(flatten(alloc, &library, &top, &tech))
+    let top = text(alloc, b"A")?;
+    Ok(flatten(alloc, library, &top, tech))
 }

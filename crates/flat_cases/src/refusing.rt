@@ -1,7 +1,7 @@
 //! Which structures are refused, by what, and what is passed over.
 use crate::parts::{AS_IT_IS, Corners, NO_TURN, ONE, Part, QUARTER, flattened, of_parts};
 use crate::said::{Said, said_of};
-use crate::shelf::{HERE, push_shelf};
+use crate::shelf::{HERE, push_beside};
 use gds_flat::{FlatError, Odd};
 use rt_layout::Layout;
 use std::alloc::Global;
@@ -364,8 +364,7 @@ static SAID: [(&str, &'static [Part], Said); 62] = [
 // What is said of A, which has these elements, beside the shelf.
 fn said_of_parts(alloc: Global, parts: &[Part]) -> Result<Said, Fail> {
     let mut structures = Vec::new(alloc);
-    structures.push(of_parts(alloc, b"A", parts)?)?;
-    push_shelf(alloc, &mut structures)?;
+    push_beside(alloc, &mut structures, parts)?;
     Ok(said_of(&flattened(alloc, structures, false)?))
 }
 

@@ -96,6 +96,16 @@ fn push_line(
     Ok(())
 }
 
+// Appends A of the parts, and the shelf.
+pub(crate) fn push_beside(
+    alloc: Global,
+    structures: &mut Vec<Structure>,
+    parts: &[Part],
+) -> Result<(), Fail> {
+    structures.push(of_parts(alloc, b"A", parts)?)?;
+    push_shelf(alloc, structures)
+}
+
 // Appends the structures.
 pub(crate) fn push_shelf(alloc: Global, structures: &mut Vec<Structure>) -> Result<(), Fail> {
     push_parts(alloc, structures, SHELF)?;

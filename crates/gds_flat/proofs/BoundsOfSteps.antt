@@ -21,6 +21,7 @@ use Rattle.gds_flat.specs.Building.{SpotWithin, DrawingWithin, PieceWithin, most
 use Rattle.gds_flat.proofs.Coming.{entry_is}
 use Rattle.gds_flat.proofs.Entries.{entry_in}
 use Rattle.rt_cells.proofs.Lists.{mapped}
+use Rattle.rt_cells.proofs.Times.{times_le}
 use Rattle.gds_flat.proofs.Leading.{rem_none}
 
 -- ---- parts and products
@@ -34,6 +35,15 @@ quotient_is c d p e =
     let q = quot-rem d c in
     let m = *ℤ_comm c (int_div d c) in
     omega (arith, ints, q, r, m)
+
+-- so many steps of at most 2^32 either way
+pub product_near : (n : ℕ) (s : ℤ) → n < 2 ^ 16 → neg_ℤ (pos (2 ^ 32)) ≤ℤ s → s ≤ℤ pos (2 ^ 32)
+    → (neg_ℤ (pos (2 ^ 48)) ≤ℤ (pos n *ℤ s)) × ((pos n *ℤ s) ≤ℤ pos (2 ^ 48))
+product_near n s few low high =
+    let some : pos 0 ≤ℤ pos n = omega (arith, ints) in
+    let up = times_le (pos n) s (pos (2 ^ 32)) some high in
+    let down = times_le (pos n) (neg_ℤ (pos (2 ^ 32))) s some low in
+    (omega (arith, ints), omega (arith, ints))
 
 small_abs : (z : ℤ) (n : ℕ) → neg_ℤ (pos n) ≤ℤ z → z ≤ℤ pos n → unsigned_abs z ≤ n
 small_abs (pos a) n low high = omega (arith, ints)

@@ -7,14 +7,15 @@ use Rattle.rt_base.specs.declared.plane.Rect.{Rect}
 use Rattle.rt_base.specs.Plane.{area}
 use Rattle.rt_cells.specs.Rectangles.{Rectangle}
 use Rattle.gds_slabs.specs.declared.path.PathEnd.{PathEnd}
-use Rattle.gds_slabs.specs.Slabs.{IsSlabs}
+use Rattle.gds_slabs.specs.Slabs.{IsSlabs, IsOnlySlab}
 use Rattle.gds_slabs.specs.Path.{path_areas, half_of}
 use Rattle.gds_slabs.specs.Steps.{IsWithin, AreInReach}
+use Rattle.gds_flat.specs.declared.item.Drawn.TheVariants.{Note}
 use Rattle.gds_flat.specs.declared.item.Item.{Item}
-use Rattle.gds_flat.specs.Items.{area_piece, AreSlabPieces, ArePathPieces}
+use Rattle.gds_flat.specs.Items.{area_piece, note_piece, AreSlabPieces, ArePathPieces}
 use Rattle.gds_flat.specs.Elements.{end_of}
 use Rattle.gds_flat.specs.Drawn.{piece_of, pieces_in}
-use Rattle.gds_flat.specs.Building.{PieceWithin, reach_of, area_item, Appends, AreNearAnd}
+use Rattle.gds_flat.specs.Building.{SpotWithin, IsNotePiece, PieceWithin, reach_of, area_item, Appends, AreNearAnd}
 
 areas_in : (offset mask : ℕ) (rects : List Rect) → pieces_in (map (area_item offset mask) rects) ≡ map (area_piece offset mask) (map area rects)
 areas_in offset mask [] = refl
@@ -47,6 +48,28 @@ polygon_appended (Ok x) offset mask points rects shown old new slabs near same h
     near = pieces_near offset mask (map area rects) near.near;
   };
 }
+
+-- the piece of a polygon that is one rectangle is appended
+pub rectangle_appended : {T E : Type 0} (r : Result T E) (offset mask : ℕ) (points : List Point) (rect : Rect) (old new : List Item)
+    → IsOnlySlab points rect → OnOk r (new ≡ old ++ area_item offset mask rect ∷ []) → OnOk r (Appends (AreNearAnd (AreSlabPieces offset mask points)) old new)
+rectangle_appended r offset mask points rect old new is h =
+    let near : All (IsWithin (reach_of 0)) (area rect ∷ []) = All-cons (IsWithin (reach_of 0)) (area rect) [] is.near (All-nil (IsWithin (reach_of 0))) in
+    polygon_appended r offset mask points (rect ∷ []) (rect ∷ []) old new is.only (record { near = near }) refl h
+
+-- the piece of a label is appended
+pub label_appended : (offset mask : ℕ) (at : Point) (text shown : List ℕ) (x y : ℤ) (old new : List Item) → SpotWithin (reach_of 0) (at.x, at.y)
+    → x ≡ at.x → y ≡ at.y → shown ≡ text → new ≡ old ++ record { offset = offset; mask = mask; drawn = Note (x, y) shown } ∷ []
+    → Appends (AreNearAnd (IsNotePiece offset mask at text)) old new
+label_appended offset mask at text shown x y old new near across up same is =
+    let piece = note_piece offset mask at text in
+    record {
+      more = piece ∷ [];
+      appended = ap pieces_in is ∙ map-append piece_of old (record { offset = offset; mask = mask; drawn = Note (x, y) shown } ∷ []) ∙ rw (across, up, same) refl;
+      are = record {
+        are = refl;
+        near = All-cons (PieceWithin (reach_of 0)) piece [] (record { within = near }) (All-nil (PieceWithin (reach_of 0)));
+      };
+    }
 
 -- the pieces of a path are appended
 pub path_appended : {T E : Type 0} (r : Result T E) (offset mask : ℕ) (pathtype width : ℤ) (points : List Point) (end : PathEnd) (rects shown : List Rect) (old new : List Item)

@@ -11,7 +11,7 @@ use Rattle.gds_stream.specs.declared.library.Structure.{Structure}
 use Rattle.gds_stream.specs.declared.library.Place.{Place}
 use Rattle.gds_slabs.specs.declared.step.Step.{Step}
 use Rattle.gds_flat.specs.declared.error.Odd.TheVariants.{Angle}
-use Rattle.gds_flat.specs.Reach.{Name, target, references}
+use Rattle.gds_flat.specs.Reach.{Name, target}
 use Rattle.gds_flat.specs.Elements.{pair_of, mask_of, IsWhole, Fine, point_at}
 use Rattle.gds_flat.specs.Placing.{IsTurnOf, AreStepsTo, array_shifts, StepsOf}
 use Rattle.gds_flat.specs.Items.PiecesOf.{none, own, placed}

@@ -2,7 +2,7 @@
 use rt_base::{Rect, Text};
 
 // What an item draws, in source database units.
-#[derive(Debug, Drop)]
+#[derive(Drop)]
 pub(crate) enum Drawn {
     // A rectangle.
     Area(Rect),
@@ -11,7 +11,7 @@ pub(crate) enum Drawn {
 }
 
 // A rectangle or a label on a mask, with the place of the first byte of the element that gives it.
-#[derive(Debug, Drop)]
+#[derive(Drop)]
 pub(crate) struct Item {
     pub offset: u64,
     pub mask: u32,

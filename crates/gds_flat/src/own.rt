@@ -11,7 +11,7 @@ ghost use Rattle.gds_flat.specs.Building.{CanBeDrawn, Appends, AreNearAnd, IsNot
 use crate::ends::taken_end;
 use crate::item::{Drawn, Item};
 use crate::masks::mask_of;
-use gds_slabs::{path_rects, slabs};
+use gds_slabs::{path_rects, rectangle_around, slabs};
 use gds_stream::Element;
 use rt_base::{List, OutOfMemory, Point, Rect, Text};
 use rt_tech::Tech;
@@ -76,6 +76,28 @@ fn push_on(
 
 // Appends the rectangles of a polygon.
 fn push_polygon(
+    alloc: Global,
+    items: &mut List<Item>,
+    offset: u64,
+    mask: u32,
+    points: &[Point],
+) -> Result<(), OutOfMemory>
+    requires closed { IsClosed points.now }
+    requires straight { ¬ IsSlanted points.now }
+    ensures { OnOk result (Appends (AreNearAnd (AreSlabPieces offset mask points.now)) items.old items.new) }
+{
+    match rectangle_around(points) {
+        Some(rect) => items.push(Item {
+            offset,
+            mask,
+            drawn: Drawn::Area(rect),
+        }),
+        None => push_slabs(alloc, items, offset, mask, points),
+    }
+}
+
+// Appends the rectangles of a polygon, row by row.
+fn push_slabs(
     alloc: Global,
     items: &mut List<Item>,
     offset: u64,

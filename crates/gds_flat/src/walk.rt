@@ -10,7 +10,7 @@ use rt_base::{List, OutOfMemory, Text};
 use std::alloc::Global;
 
 // What the walk knows of a structure.
-#[derive(Clone, Copy, Debug, PartialEq, Eq, Drop)]
+#[derive(Clone, Copy, Drop)]
 pub(crate) enum Mark {
     // It isn't reached yet.
     Unseen,
@@ -21,7 +21,7 @@ pub(crate) enum Mark {
 }
 
 // A structure that is being walked, and the place of its next element.
-#[derive(Clone, Copy, Debug, PartialEq, Eq, Drop)]
+#[derive(Clone, Copy, Drop)]
 pub(crate) struct Frame {
     pub structure: usize,
     pub next: usize,
@@ -57,9 +57,10 @@ pub(crate) fn walked(alloc: Global, names: &Names) -> Result<Walk, Stop>
 fn begun(alloc: Global, names: &Names) -> Result<Walk, OutOfMemory>
     ensures { IfOk result (λ w. IsWalk names.now.structures.now names.now.top.now (names.now.top.now ∷ []) w.frames.items w) }
 {
+    let marks = vec![in alloc; Mark::Unseen; names.structures.len()]?;
     Ok(Walk {
         frames: Vec::new(alloc),
-        marks: vec![in alloc; Mark::Unseen; names.structures.len()]?,
+        marks,
         order: Vec::new(alloc),
         finish: Vec::new(alloc),
         circle: None,

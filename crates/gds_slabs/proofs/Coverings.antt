@@ -100,7 +100,7 @@ slabs_apart points r q h k x y m n =
 
 -- ---- the toggles by height, as a list
 
-le_says : (a b : ℤ) → int_le a b ≡ true → a ≤ℤ b
+pub le_says : (a b : ℤ) → int_le a b ≡ true → a ≤ℤ b
 le_says a b h = grind (arith, ints)
 
 not_le_says : (a b : ℤ) → int_le a b ≡ false → b ≤ℤ a

@@ -36,7 +36,7 @@ toggles_parity f y p (q ∷ points) =
     two_ends (int_le p.y y) (int_le q.y y) (f p.x) (parity (under f y) (toggles_from q points))
     ∙ ap (xor (passes f y (p, q))) (toggles_parity f y q points)
 
-between_says : (a b y : ℤ) → (int_le (int_min a b) y && int_lt y (int_max a b)) ≡ xor (int_le a y) (int_le b y)
+pub between_says : (a b y : ℤ) → (int_le (int_min a b) y && int_lt y (int_max a b)) ≡ xor (int_le a y) (int_le b y)
 between_says a b y =
     by_lt_z y a
     (λ l. by_lt_z y b
@@ -46,11 +46,11 @@ between_says a b y =
     (λ m. rw (le_yes a y l, le_no b y m, le_yes (int_min a b) y (omega (arith, ints, clamps)), lt_yes y (int_max a b) (omega (arith, ints, clamps))) refl)
     (λ m. rw (le_yes a y l, le_yes b y m, le_yes (int_min a b) y (omega (arith, ints, clamps)), lt_no y (int_max a b) (omega (arith, ints, clamps))) refl))
 
-and_false : (b : Bool) → (b && false) ≡ false
+pub and_false : (b : Bool) → (b && false) ≡ false
 and_false true = refl
 and_false false = refl
 
-same_row : (p q : Point) → (IsSlantedSide (p, q) → ⊥) → int_eq p.x q.x ≡ false → p.y ≡ q.y
+pub same_row : (p q : Point) → (IsSlantedSide (p, q) → ⊥) → int_eq p.x q.x ≡ false → p.y ≡ q.y
 same_row p q straight e =
     let d = Decides-int_eq p.x q.x in
     let c = Decides-int_eq p.y q.y in
@@ -99,7 +99,7 @@ get_last p (q ∷ points) = get_last q points
 pub some_one : {X : Type 0} (a b : X) → Some a ≡ Some b → a ≡ b
 some_one a b e = cc
 
-closed_last : (p : Point) (points : List Point) → IsClosed (p ∷ points) → last_from p points ≡ p
+pub closed_last : (p : Point) (points : List Point) → IsClosed (p ∷ points) → last_from p points ≡ p
 closed_last p points h =
     let e : length (p ∷ points) - 1 ≡ length points = omega arith in
     let k = subst (λ n. slice_get (p ∷ points) n ≡ Some p) e h in

@@ -14,3 +14,4 @@ pub mod PathAreas
 pub mod Counts
 pub mod Nearness
 pub mod Corners
+pub mod OneSlab

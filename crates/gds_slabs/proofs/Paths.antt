@@ -1,5 +1,5 @@
 -- The steps of the loops over a path.
-use Rattle.std.proofs.Common.{Some, ◌≡◌, ◌≢◌, ℕ, zero, suc, ◌+◌, ◌-◌, ◌<◌, ◌≤◌, ℤ, ◌<ℤ◌, Bool, true, false, not, cond, ◌&&◌, List, [], ◌∷◌, ◌++◌, length, get_or, map, refl, sym, ◌∙◌, ap, append_assoc, length-append, arith}
+use Rattle.std.proofs.Common.{Some, ◌≡◌, ◌≢◌, ℕ, zero, suc, ◌+◌, ◌-◌, ◌<◌, ◌≤◌, ℤ, ◌<ℤ◌, Bool, true, false, not, cond, ◌&&◌, List, [], ◌∷◌, ◌++◌, length, get_or, drop, drop-cons, add-one, map, refl, sym, ◌∙◌, ap, append_assoc, length-append, arith}
 use Rattle.std.specs.Prelude.{slice_get}
 use Rattle.std.specs.Int.{int_min, int_max}
 use Rattle.std.specs.List.{filter}
@@ -15,6 +15,7 @@ use Rattle.rt_base.specs.declared.plane.Point.{Point}
 use Rattle.rt_base.specs.declared.plane.Rect.{Rect}
 use Rattle.rt_cells.specs.Rectangles.{Rectangle}
 use Rattle.rt_cells.proofs.Lines.{antisymmetric}
+use Rattle.gds_slabs.specs.Polygon.{sides_from}
 use Rattle.gds_slabs.specs.Path.{square, row_segment, column_segment, segment, has_length}
 
 -- the smaller of two different numbers is below the greater
@@ -63,6 +64,36 @@ row_pushed half p q old new r e f g h = pushed old new r _ g h ∙ ap (λ v. map
 pub column_pushed : (half : ℤ) (p q : Point) (old new : List Rect) (r : Rect) → p.y ≢ q.y → new ≡ old ++ r ∷ [] → area r ≡ column_segment half (p, q)
     → map area new ≡ map area old ++ map (segment half) (filter has_length ((p, q) ∷ []))
 column_pushed half p q old new r e g h = pushed old new r _ g h ∙ ap (λ v. map area old ++ v) (sym (column_listed half p q e))
+
+-- one entry, and what is left behind it
+pub drop_more : {X : Type 0} (xs : List X) (i : ℕ) (d : X) → i < length xs → drop i xs ≡ get_or xs i d ∷ drop (i + 1) xs
+drop_more xs i d low = rw (add-one i) (drop-cons xs i d low)
+
+-- the rectangles of the next segment are pushed, and those of the others are left
+pub segments_more : (half : ℤ) (last : Point) (rest : List Point) (i : ℕ) (d : Point) (now new : List Rect) (all : List Rectangle) → i < length rest
+    → map area new ≡ map area now ++ map (segment half) (filter has_length ((last, get_or rest i d) ∷ []))
+    → map area now ++ map (segment half) (filter has_length (sides_from last (drop i rest))) ≡ all
+    → map area new ++ map (segment half) (filter has_length (sides_from (get_or rest i d) (drop (i + 1) rest))) ≡ all
+segments_more half last rest i d now new all low is was =
+    let p = get_or rest i d in
+    let others = sides_from p (drop (i + 1) rest) in
+    ap (λ v. v ++ map (segment half) (filter has_length others)) is
+    ∙ append_assoc (map area now) (map (segment half) (filter has_length ((last, p) ∷ []))) (map (segment half) (filter has_length others))
+    ∙ ap (λ v. map area now ++ v)
+    (sym (map-append (segment half) (filter has_length ((last, p) ∷ [])) (filter has_length others))
+    ∙ ap (map (segment half)) (sym (filter-append has_length ((last, p) ∷ []) others))
+    ∙ ap (λ v. map (segment half) (filter has_length (sides_from last v))) (sym (drop_more rest i d low)))
+    ∙ was
+
+-- the square at the next point is pushed, and those at the others are left
+pub squares_more : (half : ℤ) (points : List Point) (i : ℕ) (d : Point) (now new : List Rect) (r : Rect) (all : List Rectangle) → i < length points
+    → new ≡ now ++ r ∷ [] → area r ≡ square half (get_or points i d)
+    → map area now ++ map (square half) (drop i points) ≡ all → map area new ++ map (square half) (drop (i + 1) points) ≡ all
+squares_more half points i d now new r all low is same was =
+    ap (λ v. v ++ map (square half) (drop (i + 1) points)) (pushed now new r _ is same)
+    ∙ append_assoc (map area now) (square half (get_or points i d) ∷ []) (map (square half) (drop (i + 1) points))
+    ∙ ap (λ v. map area now ++ map (square half) v) (sym (drop_more points i d low))
+    ∙ was
 
 -- one segment, and the others
 pub length_kept : (side : Point × Point) (others : List (Point × Point))

@@ -15,14 +15,14 @@ not_true : (b : Bool) → not b ≡ true → b ≡ false
 not_true true e = absurd (cc e)
 not_true false e = refl
 
-slanted_says : (s : Point × Point) → slanted s ≡ true → IsSlantedSide s
+pub slanted_says : (s : Point × Point) → slanted s ≡ true → IsSlantedSide s
 slanted_says (p, q) e =
     let h = and_parts (not (int_eq p.x q.x)) (not (int_eq p.y q.y)) e in (
       (λ k. clash (int_eq p.x q.x) ((Decides-int_eq p.x q.x).1 k) (not_true (int_eq p.x q.x) h.0)),
       (λ k. clash (int_eq p.y q.y) ((Decides-int_eq p.y q.y).1 k) (not_true (int_eq p.y q.y) h.1)),
     )
 
-slanted_yes : (s : Point × Point) → IsSlantedSide s → slanted s ≡ true
+pub slanted_yes : (s : Point × Point) → IsSlantedSide s → slanted s ≡ true
 slanted_yes (p, q) h =
     and_from (not (int_eq p.x q.x)) (not (int_eq p.y q.y))
     (not_from_false (int_eq p.x q.x) (false_from_ne_true (int_eq p.x q.x) (λ e. h.0 ((Decides-int_eq p.x q.x).0 e))))

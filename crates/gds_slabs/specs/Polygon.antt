@@ -34,6 +34,12 @@ IsSlantedSide (p, q) = (p.x ≢ q.x) × (p.y ≢ q.y)
 abbrev pub slanted : Point × Point → Bool
 slanted (p, q) = not (int_eq p.x q.x) && not (int_eq p.y q.y)
 
+-- five points, of which the first and the third differ in both coordinates, and so do the second and the fourth: where the line is
+-- closed and no side is slanted, it goes around a rectangle from corner to corner
+abbrev pub GoesAround : List Point → Type 0
+GoesAround (a ∷ b ∷ c ∷ d ∷ e ∷ []) = IsSlantedSide (a, c) × IsSlantedSide (b, d)
+GoesAround points = ⊥
+
 -- some side is slanted
 abbrev pub IsSlanted : List Point → Type 0
 IsSlanted points = (side : Point × Point) × Contains (sides points) side × IsSlantedSide side

@@ -1,9 +1,12 @@
 -- The rectangles that a polygon becomes: between each two adjacent heights of its points, the runs of the cells inside.
-use Rattle.std.specs.Prelude.{◌≡◌, ℕ, ℤ, ◌<ℤ◌, ◌⊎◌, List, [], ◌∷◌, length, All, Contains}
+use Rattle.std.specs.Prelude.{◌≡◌, ℕ, ◌^◌, ℤ, pos, ◌<ℤ◌, ◌⊎◌, List, [], ◌∷◌, length, All, Contains}
 use Rattle.rt_base.specs.declared.plane.Point.{Point}
+use Rattle.rt_base.specs.declared.plane.Rect.{Rect}
+use Rattle.rt_base.specs.Plane.{area}
 use Rattle.rt_cells.specs.Rectangles.{Rectangle}
 use Rattle.rt_cells.specs.Line.{IsRun}
 use Rattle.gds_slabs.specs.Polygon.{Inside}
+use Rattle.gds_slabs.specs.Steps.{IsWithin}
 
 -- one of the points is at the height
 abbrev pub IsHeight : List Point → ℤ → Type 0
@@ -35,6 +38,11 @@ pub record IsSlabs (points : List Point) (rects : List Rectangle) : Type 0 where
   pub order : AreInOrder rects
   pub sound : (r : Rectangle) → Contains rects r → IsSlab points r
   pub complete : (r : Rectangle) → IsSlab points r → Contains rects r
+
+-- the rectangle is the only slab, and lies no farther from the axes than 2^32
+pub record IsOnlySlab (points : List Point) (rect : Rect) : Type 0 where
+  pub only : IsSlabs points (area rect ∷ [])
+  pub near : IsWithin (pos (2 ^ 32)) (area rect)
 
 -- the number of the slabs
 abbrev pub IsSlabCount : List Point → ℕ → Type 0

@@ -63,7 +63,6 @@ fn push_segments(
 }
 
 // Appends the rectangle of the segment, if it has a length.
-#[tactic(auto, using(crate::proofs::Paths::row_pushed, crate::proofs::Paths::column_pushed, crate::proofs::Nearness::near_pushed))]
 fn push_segment(rects: &mut List<Rect>, pen: &Pen, p: &Point, q: &Point) -> Result<(), OutOfMemory>
     ensures areas { OnOk result (map area rects.new ≡ map area rects.old ++ map (segment pen.now.half) (filter has_length ((p.now, q.now) ∷ []))) }
     ensures near { OnOk result (AreInReach rects.old → AreInReach rects.new) }
@@ -105,7 +104,7 @@ fn along_column(pen: &Pen, p: &Point, q: &Point) -> Rect
     }
 }
 
-fn lesser(a: &i32, b: &i32) -> i64
+pub(crate) fn lesser(a: &i32, b: &i32) -> i64
     ensures value { result ≡ int_min a.now b.now }
     ensures small { IsCoordinate result }
     ensures near { IsInReach result }
@@ -113,7 +112,7 @@ fn lesser(a: &i32, b: &i32) -> i64
     i64::from(if *b < *a { *b } else { *a })
 }
 
-fn greater(a: &i32, b: &i32) -> i64
+pub(crate) fn greater(a: &i32, b: &i32) -> i64
     ensures value { result ≡ int_max a.now b.now }
     ensures small { IsCoordinate result }
     ensures near { IsInReach result }
@@ -122,7 +121,6 @@ fn greater(a: &i32, b: &i32) -> i64
 }
 
 // Appends the squares at the points.
-#[tactic(auto, using(crate::proofs::Nearness::near_pushed))]
 fn push_squares(rects: &mut List<Rect>, pen: &Pen, points: &[Point]) -> Result<(), OutOfMemory>
     ensures areas { OnOk result (map area rects.new ≡ map area rects.old ++ map (square pen.now.half) points.now) }
     ensures near { OnOk result (AreInReach rects.old → AreInReach rects.new) }

@@ -2,6 +2,7 @@
 #![tactic(auto)]
 
 mod areas;
+mod around;
 mod laws;
 mod moves;
 mod path;
@@ -12,6 +13,7 @@ mod sweep;
 mod toggles;
 
 pub use areas::{is_path_width, path_count, path_rects};
+pub use around::rectangle_around;
 pub use laws::{
     moved_cells_are_apart, moved_corners_are_corners, moved_rect_has_a_cell,
     moved_rect_holds_moved_cells, path_areas_are_listed, slabs_are_apart, slabs_are_one,

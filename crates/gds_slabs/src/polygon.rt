@@ -47,7 +47,7 @@ fn goes_slanted(first: &Point, rest: &[Point]) -> bool
     false
 }
 
-fn is_slanted_side(p: &Point, q: &Point) -> bool
+pub(crate) fn is_slanted_side(p: &Point, q: &Point) -> bool
     ensures { result ≡ slanted (p.now, q.now) }
 {
     p.x != q.x && p.y != q.y

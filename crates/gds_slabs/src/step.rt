@@ -2,7 +2,7 @@
 use rt_base::Orient;
 
 /// How a reference places what it names: a turn about the origin, and then a shift. (GDSII Release 6: SREF and AREF.)
-#[derive(Clone, Copy, Debug, PartialEq, Eq, Drop)]
+#[derive(Clone, Copy, Drop)]
 pub struct Step {
     /// The turn.
     pub orient: Orient,

@@ -6,6 +6,7 @@ ghost use Rattle.gds_slabs.specs.Slabs.{IsSlabs, IsSlabCount};
 ghost use Rattle.gds_slabs.specs.Steps.{AreInReach};
 ghost use Rattle.gds_slabs.specs.Sweep.{slab, step, swept};
 
+use crate::around::goes_around;
 use crate::toggles::{Toggle, flip, sorted_toggles};
 use rt_base::{List, OutOfMemory, Point, Rect};
 use std::alloc::Global;
@@ -101,6 +102,9 @@ pub fn slab_count(alloc: Global, points: &[Point]) -> Result<u64, OutOfMemory>
     requires straight { ¬ IsSlanted points.now }
     ensures { IfOk result (IsSlabCount points.now) }
 {
+    if goes_around(points) {
+        return Ok(1);
+    }
     let toggles = sorted_toggles(alloc, points)?;
     count_of(alloc, &toggles)
 }

@@ -8,7 +8,7 @@ use std::alloc::Global;
 use std::collections::BTreeSet;
 
 /// From this height on, the cells inside begin or end at the column: once more, or once less.
-#[derive(Clone, Copy, Debug, PartialEq, Eq, PartialOrd, Ord, Drop)]
+#[derive(Clone, Copy, PartialEq, Eq, PartialOrd, Ord, Drop)]
 pub struct Toggle {
     /// The height.
     pub y: i32,
