@@ -1,5 +1,5 @@
 //! A desk over the files and the standard output of the program.
-ghost use Rattle.std.specs.Prelude.{◌≡◌, None, OnOk};
+ghost use Rattle.std.specs.Prelude.{◌≡◌, ◌+◌, ◌≤◌, None, OnOk, length};
 ghost use Rattle.std.specs.Io.KnownBytes.{Appends};
 ghost use Rattle.rt_desk.specs.Desk.{Fetches, Stores, Says};
 ghost use Rattle.rt_desk.specs.OnDisk.{IsRead, faults_after, CountsErrors, seen_at, fetch_faults_at, store_faults_at, say_faults_at};
@@ -201,14 +201,20 @@ fn name_beside<'a>(room: &'a mut [u8; PATH_LIMIT], name: &str, nth: u8) -> Optio
     }
     let start = name.len();
     let end = start + ENDING.len();
-    room[..start].copy_from_slice(name.as_bytes());
-    room[start..end].copy_from_slice(ENDING);
+    put_at(room, 0, name.as_bytes());
+    put_at(room, start, ENDING);
     if nth == 0 {
         return str::from_utf8(&room[..end]).ok();
     }
-    let number = [b'.', b'0' + nth / 10, b'0' + nth % 10];
-    room[end..end + NUMBER_LENGTH].copy_from_slice(&number);
+    put_at(room, end, &[b'.', b'0' + nth / 10, b'0' + nth % 10]);
     str::from_utf8(&room[..end + NUMBER_LENGTH]).ok()
+}
+
+// Puts bytes into the room from a place on.
+fn put_at(room: &mut [u8; PATH_LIMIT], start: usize, bytes: &[u8])
+    requires { start + length bytes.now ≤ PATH_LIMIT }
+{
+    room[start..start + bytes.len()].copy_from_slice(bytes);
 }
 
 // Writes the new file, with the old one's permissions, and moves it into the old one's place.

@@ -41,10 +41,9 @@ impl From<io::Error> for DeskError {
     ghost from_gives = { λ error cause. IsCauseOf (error_kind error) cause };
 
     fn from(error: io::Error) -> DeskError {
-        if error.kind() == ErrorKind::OutOfMemory {
-            DeskError::OutOfMemory
-        } else {
-            DeskError::Failed
+        match error.kind() {
+            ErrorKind::OutOfMemory => DeskError::OutOfMemory,
+            _ => DeskError::Failed,
         }
     }
 }

@@ -1,192 +1,102 @@
 //! What differs between how a run ended and what is wanted, in words.
 
-use crate::drawn::drawing_of;
-use crate::group::Case;
+use crate::drawn::put_drawing;
+use crate::keys::{number_in, text_in};
 use rt_desk::MemoryDesk;
 use std::alloc::{AllocError, Global};
+use toml::Table;
 
-/// How a run ended: its status, the files before it, and the desk after it.
-#[derive(Drop)]
-pub struct Ended<'a> {
-    /// The status.
-    pub status: u8,
-    /// The files before.
-    pub before: &'a [(String, Vec<u8>)],
-    /// The desk after.
-    pub after: &'a MemoryDesk,
-}
-
-// Which word of a run names OUT.
-const OUT: usize = 5;
-
-/// What differs from what the case wants, each ended by a semicolon, where OUT is to hold `out`, or to be as it was.
-pub fn differences(
+/// Appends that the status isn't the one that the case wants.
+pub fn put_status(
     alloc: Global,
-    case: &Case,
-    words: &[String],
-    out: Option<&[u8]>,
-    ended: &Ended<'_>,
-) -> Result<String, AllocError> {
-    let mut text = String::new(alloc);
-    put_status(alloc, &mut text, ended.status, case.status)?;
-    put_said(alloc, &mut text, ended.after.said(), case)?;
-    let name = match words.get(OUT) {
-        Some(word) if out.is_some() => Some(word.as_str()),
-        _ => None,
+    case: &Table,
+    status: u8,
+    to: &mut String,
+) -> Result<(), AllocError> {
+    let Some(wanted) = number_in(case, "status") else {
+        return to.push_str("no status is wanted; ");
     };
-    if let Some(wanted) = out {
-        put_out(alloc, &mut text, name, wanted, ended)?;
-    }
-    put_others(alloc, &mut text, words, name, ended)?;
-    Ok(text)
-}
-
-// Appends that the status is another one.
-fn put_status(alloc: Global, to: &mut String, status: u8, wanted: u8) -> Result<(), AllocError> {
-    if status == wanted {
+    if wanted == u64::from(status) {
         return Ok(());
     }
     let text = format!(in alloc; "status {status}, wanted {wanted}; ")?;
     to.push_str(text.as_str())
 }
 
-// Appends that another line was said.
-fn put_said(alloc: Global, to: &mut String, said: &[u8], case: &Case) -> Result<(), AllocError> {
-    if is_wanted(said, case) {
-        return Ok(());
-    }
-    let text = String::from_utf8_lossy(alloc, said)?;
-    let difference = format!(in alloc; "said {:?}, wanted {:?}; ", text.as_str(), told(case))?;
-    to.push_str(difference.as_str())
-}
-
-// What the case tells of what is wanted to be said.
-fn told(case: &Case) -> &str {
-    let whole = case.said.as_ref().or(case.line.as_ref());
-    let part = case.line_begins.as_ref().or(case.line_ends.as_ref());
-    match whole.or(part) {
-        Some(text) => text.as_str(),
-        None => "",
-    }
-}
-
-// Whether what was said is what the case wants.
-fn is_wanted(said: &[u8], case: &Case) -> bool {
-    match (&case.said, &case.line) {
-        (Some(all), _) => said == all.as_bytes(),
-        (None, Some(line)) => said.strip_suffix(b"\n") == Some(line.as_bytes()),
-        (None, None) => is_wanted_in_parts(said, case),
-    }
-}
-
-// Whether what was said begins and ends as the case wants, or is nothing where it wants none.
-fn is_wanted_in_parts(said: &[u8], case: &Case) -> bool {
-    if case.line_begins.is_none() && case.line_ends.is_none() {
-        return said.is_empty();
-    }
-    match said.strip_suffix(b"\n") {
-        Some(line) => {
-            line.starts_with(part(&case.line_begins)) && line.ends_with(part(&case.line_ends))
-        }
-        None => false,
-    }
-}
-
-// The bytes of a part of a line, none where it isn't told.
-fn part(text: &Option<String>) -> &[u8] {
-    match text {
-        Some(text) => text.as_bytes(),
-        None => &[],
-    }
-}
-
-// Appends that OUT doesn't hold what is wanted.
-fn put_out(
+/// Appends what was said, where it isn't what the case wants.
+pub fn put_said(
     alloc: Global,
+    case: &Table,
+    said: &[u8],
     to: &mut String,
-    name: Option<&str>,
-    wanted: &[u8],
-    ended: &Ended<'_>,
 ) -> Result<(), AllocError> {
-    let Some(name) = name else {
-        return to.push_str("no word names OUT; ");
-    };
-    match ended.after.file(name) {
-        Some(held) => put_held(alloc, to, held, wanted),
-        None => to.push_str("OUT isn't there; "),
-    }
-}
-
-// Appends where bytes differ from those that are wanted, and what both draw.
-fn put_held(alloc: Global, to: &mut String, held: &[u8], wanted: &[u8]) -> Result<(), AllocError> {
-    if held == wanted {
+    if is_wanted(case, said) {
         return Ok(());
     }
-    let place = first_difference(held, wanted);
-    let drawn = drawing_of(alloc, held)?;
-    let hoped = drawing_of(alloc, wanted)?;
-    let text = format!(in alloc;
-        "OUT differs at byte {place} (of {}, wanted {}): it draws{}, wanted{}; ",
-        held.len(),
-        wanted.len(),
-        drawn.as_str(),
-        hoped.as_str()
-    )?;
+    let text = format!(in alloc; "said {:?}; ", str::from_utf8(said).unwrap_or("no text"))?;
     to.push_str(text.as_str())
 }
 
-// The first place where bytes differ, or where one of the two ends.
-fn first_difference(held: &[u8], wanted: &[u8]) -> usize {
-    let mut place = 0usize;
-    for (byte, other) in held.iter().zip(wanted) {
-        if byte != other {
-            return place;
-        }
-        place = place.saturating_add(1);
+// Whether what was said is what the case wants. A case that tells all of it and its line is none.
+fn is_wanted(case: &Table, said: &[u8]) -> bool {
+    let line = said.strip_suffix(b"\n");
+    match (
+        text_in(case, "said"),
+        text_in(case, "line"),
+        text_in(case, "line_begins"),
+        text_in(case, "line_ends"),
+    ) {
+        (None, None, None, None) => said.is_empty(),
+        (Some(all), None, None, None) => said == all.as_bytes(),
+        (None, Some(whole), None, None) => line == Some(whole.as_bytes()),
+        (None, None, begins, ends) => has_parts(line, begins, ends),
+        _ => false,
     }
-    place
 }
 
-// Appends each other file that isn't as it was. A run knows no other names than its words.
-fn put_others(
+// Whether a line is there that begins and ends so.
+fn has_parts(line: Option<&[u8]>, begins: Option<&str>, ends: Option<&str>) -> bool {
+    let Some(line) = line else {
+        return false;
+    };
+    line.starts_with(begins.unwrap_or("").as_bytes())
+        && line.ends_with(ends.unwrap_or("").as_bytes())
+}
+
+/// Appends each file that isn't as it is wanted. A run knows no other names than its words.
+pub fn put_changes(
     alloc: Global,
-    to: &mut String,
     words: &[String],
-    out: Option<&str>,
-    ended: &Ended<'_>,
+    files: &[(String, Vec<u8>)],
+    after: &MemoryDesk,
+    wanted: &MemoryDesk,
+    to: &mut String,
 ) -> Result<(), AllocError> {
-    for (name, _) in ended.before {
-        put_change(alloc, to, name.as_str(), out, ended)?;
+    for (name, _) in files {
+        put_change(alloc, name.as_str(), after, wanted, to)?;
     }
     for word in words {
-        if bytes_before(ended, word.as_str()).is_none() {
-            put_change(alloc, to, word.as_str(), out, ended)?;
-        }
+        put_change(alloc, word.as_str(), after, wanted, to)?;
     }
     Ok(())
 }
 
-// Appends that a file isn't as it was, where it isn't the one that is to change.
+// Appends a file that isn't as it is wanted, and what it draws.
 fn put_change(
     alloc: Global,
-    to: &mut String,
     name: &str,
-    out: Option<&str>,
-    ended: &Ended<'_>,
+    after: &MemoryDesk,
+    wanted: &MemoryDesk,
+    to: &mut String,
 ) -> Result<(), AllocError> {
-    if out == Some(name) || bytes_before(ended, name) == ended.after.file(name) {
+    let held = after.file(name);
+    if held == wanted.file(name) {
         return Ok(());
     }
-    let text = format!(in alloc; "{name} changed; ")?;
-    to.push_str(text.as_str())
-}
-
-// The bytes of a file before the run.
-fn bytes_before<'a>(ended: &Ended<'a>, name: &str) -> Option<&'a [u8]> {
-    for (known, bytes) in ended.before {
-        if known.as_str() == name {
-            return Some(bytes.as_slice());
-        }
-    }
-    None
+    to.push_str(name)?;
+    to.push_str(" isn't as wanted: it draws")?;
+    put_drawing(alloc, to, held)?;
+    to.push_str(", wanted")?;
+    put_drawing(alloc, to, wanted.file(name))?;
+    to.push_str("; ")
 }

@@ -7,7 +7,8 @@
 //!
 //! # A file of cases
 //!
-//! It is TOML. The file of shared texts has a text by each key. A file of cases has:
+//! It is TOML. The file of shared texts has a text by each key; among them are the records of a stream, each by its name, as
+//! `BOUNDARY = "0800"`: the number of its type and that of its data type, in hexadecimal. A file of cases has:
 //!
 //! | key | value |
 //! |---|---|
@@ -22,7 +23,7 @@
 //! | `source` | the stream in source.gds |
 //! | `stable`, `ttable`, `sizes` | the text in source.toml, target.toml, sizes.toml: its name, or the text itself, which is told by a line feed in it |
 //! | `edits` | changes of these three files, as `{ file = "source.toml", old = "width = 3", new = "width = 0" }`; `old` stands there once |
-//! | `also` | streams that are there besides, by the names of their files, as `also."out.gds".hex = "00"` |
+//! | `also` | streams and texts that are there besides, by the names of their files, as `also."out.gds".hex = "00"` |
 //! | `fails` | the number of the call of the desk that fails: calls are counted from 0, the fetches first, then the store or the parts of the line |
 //! | `every_cut` | true: the run is made with each beginning of source.gds, from no byte to all but one, and each has to end as is wanted |
 //! | `status` | the status that is wanted |
@@ -37,39 +38,39 @@
 //! | key of a stream | value |
 //! |---|---|
 //! | `rectangles` | a drawing: a library LIB with one structure. Each rectangle is `[layer, x1, y1, x2, y2]`, of data type 0 |
-//! | `texts` | texts behind its rectangles: the records of each between TEXT and ENDEL, in words |
+//! | `texts` | the records of texts behind its rectangles, in words |
 //! | `cell` | the name of its structure; TOP where it is left out |
 //! | `records` | or the records between UNITS and ENDLIB, in words |
 //! | `units` | the data of UNITS in words, of a drawing or of records; `1 1` where they are left out |
-//! | `hex` | or all bytes, in hexadecimal, with blanks and line feeds anywhere |
+//! | `hex` | or all bytes, in hexadecimal, with blanks and line feeds between them |
 //! | `cut` | how many of these bytes are kept |
 //! | `tail` | bytes behind them, in hexadecimal |
 //! | `zeros` | how many zeros stand behind all |
 //!
 //! Records in words stand one a line, or parted by semicolons: the name of the record and its data, as
-//! `BOUNDARY; LAYER 1; DATATYPE 0; XY 0 0 4 0 4 4 0 4 0 0; ENDEL`. Numbers are decimal. Bits are hexadecimal, as `STRANS 0x8000`.
-//! A real is a whole number below 65,536, or its 16 digits, as `ANGLE 90` and `MAG 0x4080000000000000`. A text is the rest of
-//! the record; a zero is put behind an odd one. BGNLIB and BGNSTR have twelve zeros where they have no data.
+//! `BOUNDARY; LAYER 1; DATATYPE 0; XY 0 0 4 0 4 4 0 4 0 0; ENDEL`. Numbers are decimal, and a real so written is whole and below
+//! 65,536. Bits and all other reals are the bytes themselves in hexadecimal, as `STRANS 0x8000` and `MAG 0x4080000000000000`. A text
+//! is the rest of the record; a zero is put behind an odd one. A record of numbers of two bytes that has no data, as BGNLIB, has
+//! twelve zeros.
 #![tactic(auto)]
 
 mod differences;
 mod drawn;
 mod files;
-mod group;
+mod keys;
 mod records;
 mod stream;
 mod trial;
 
-use anyhow::{Context, Error, Result, bail};
-use files::Texts;
-use group::{Case, Group};
-use std::alloc::Global;
-use std::collections::BTreeMap;
+use anyhow::{Context, Result, bail};
+use files::Told;
+use keys::{CASE, FILE, GIVEN, check_keys, check_texts, list_in, table_in, text_in};
 use std::process::ExitCode;
 use std::{env, fs};
+use toml::{Table, Value};
 use trial::try_case;
 
-// How many cases were tried, and how many of them weren't as wanted or couldn't be tried.
+// How many cases were tried, and how many of them weren't as wanted.
 #[derive(Drop)]
 struct Count {
     tried: u64,
@@ -77,15 +78,20 @@ struct Count {
 }
 
 fn main(rt: HostRuntime) -> Result<ExitCode> {
-    let mut names = Vec::new(rt.alloc());
-    for name in env::args(&rt)?.skip(1) {
-        names.push(name)?;
+    let mut words = Vec::new(rt.alloc());
+    for word in env::args(&rt)? {
+        words.push(word)?;
     }
-    let Some((shared, groups)) = names.split_first() else {
-        bail!("the words are the file of tables and the files of cases");
+    try_files(&rt, &words)
+}
+
+// Tries the cases of the files that the words name, and tells the status.
+fn try_files(rt: &HostRuntime, words: &[String]) -> Result<ExitCode> {
+    let [_program, shared, names @ ..] = words else {
+        bail!("the words are the file of texts and the files of cases");
     };
-    let tables = read_tables(&rt, shared.as_str())?;
-    let count = try_groups(&rt, &tables, groups)?;
+    let shared = read_table(rt, shared.as_str())?;
+    let count = try_each(rt, &shared, names)?;
     println!(rt; "{} cases, {} failed", count.tried, count.failed)?;
     Ok(if count.failed == 0 {
         ExitCode::SUCCESS
@@ -94,61 +100,79 @@ fn main(rt: HostRuntime) -> Result<ExitCode> {
     })
 }
 
-// The texts that all files of cases share, by name.
-fn read_tables(rt: &HostRuntime, name: &str) -> Result<BTreeMap<String, String>> {
-    let text = fs::read_to_string(rt, name).context(format_args!("{name}"))?;
-    let tables = toml::from_str(rt.alloc(), text.as_str()).context(format_args!("{name}"))?;
-    Ok(tables)
+// What a file holds.
+fn read_table(rt: &HostRuntime, name: &str) -> Result<Table> {
+    let text = fs::read_to_string(rt, name).context(name)?;
+    toml::table_from_str(rt.alloc(), text.as_str()).context(name)
 }
 
 // Tries the cases of these files, and counts them.
-fn try_groups(
-    rt: &HostRuntime,
-    tables: &BTreeMap<String, String>,
-    names: &[String],
-) -> Result<Count> {
+fn try_each(rt: &HostRuntime, shared: &Table, names: &[String]) -> Result<Count> {
+    check_texts(shared)?;
     let mut count = Count {
         tried: 0,
         failed: 0,
     };
     for name in names {
-        let group = read_group(rt, name.as_str())?;
-        try_group(rt, tables, name.as_str(), &group, &mut count)?;
+        try_file(rt, shared, name.as_str(), &mut count)?;
     }
     Ok(count)
 }
 
-// A file of cases.
-fn read_group(rt: &HostRuntime, name: &str) -> Result<Group> {
-    let text = fs::read_to_string(rt, name).context(format_args!("{name}"))?;
-    let group = toml::from_str(rt.alloc(), text.as_str()).context(format_args!("{name}"))?;
-    Ok(group)
+// Tries the cases of a file.
+fn try_file(rt: &HostRuntime, shared: &Table, name: &str, count: &mut Count) -> Result<()> {
+    let file = read_table(rt, name)?;
+    try_cases(rt, shared, name, &file, count).context(name)
 }
 
-// Tries the cases of a file, and adds them to the count.
-fn try_group(
+// Tries the cases that a file holds.
+fn try_cases(
     rt: &HostRuntime,
-    tables: &BTreeMap<String, String>,
+    shared: &Table,
     name: &str,
-    group: &Group,
+    file: &Table,
     count: &mut Count,
 ) -> Result<()> {
-    let texts = Texts {
-        own: &group.texts,
-        shared: tables,
+    check_keys(file, &FILE)?;
+    let (Some(given), true) = (table_in(file, "given"), file.contains_key("case")) else {
+        bail!("a file of cases has given and case");
     };
-    for case in &group.case {
-        let differs = try_case(rt.alloc(), &texts, group, case).context(format_args!(
-            "{name}: {}",
-            case.shows.as_str()
-        ))?;
-        count.tried = count.tried.saturating_add(1);
-        if differs.is_empty() {
-            println!(rt; "ok {name}: {}", case.shows.as_str())?;
-        } else {
-            count.failed = count.failed.saturating_add(1);
-            println!(rt; "{name}: {}: {}", case.shows.as_str(), differs.as_str())?;
-        }
+    check_keys(given, &GIVEN)?;
+    let told = Told {
+        alloc: rt.alloc(),
+        own: table_in(file, "texts").unwrap_or(shared),
+        shared,
+        given,
+    };
+    told.check()?;
+    for case in list_in(file, "case") {
+        try_told(rt, &told, name, case, count)?;
+    }
+    Ok(())
+}
+
+// Tries a case, adds it to the count and prints its line.
+fn try_told(
+    rt: &HostRuntime,
+    told: &Told<'_>,
+    name: &str,
+    case: &Value,
+    count: &mut Count,
+) -> Result<()> {
+    let Value::Table(case) = case else {
+        bail!("a case is a table");
+    };
+    let Some(shows) = text_in(case, "shows") else {
+        bail!("a case shows something");
+    };
+    let mut differs = String::new(told.alloc);
+    try_case(told, case, &mut differs).context(shows)?;
+    count.tried = count.tried.saturating_add(1);
+    if differs.is_empty() {
+        println!(rt; "ok {name}: {shows}")?;
+    } else {
+        count.failed = count.failed.saturating_add(1);
+        println!(rt; "{name}: {shows}: {}", differs.as_str())?;
     }
     Ok(())
 }

@@ -1,116 +1,117 @@
 //! The bytes of a stream that a case gives or wants.
 
-use crate::group::Stream;
-use crate::records::put_records;
+use crate::files::Told;
+use crate::keys::{STREAM, check_keys, list_in, number_in, text_in};
+use crate::records::{put_hex, put_named, put_numbers, put_records};
 use anyhow::{Result, bail};
-use std::alloc::{AllocError, Global};
+use toml::{Table, Value};
 
-/// The bytes of a stream. The error says what is wrong in how it is written.
-pub fn bytes_of(alloc: Global, stream: &Stream) -> Result<Vec<u8>> {
+/// Appends the bytes of a stream. The error says what is wrong in how it is written.
+pub fn put_stream(told: &Told<'_>, bytes: &mut Vec<u8>, stream: &Table) -> Result<()> {
+    check_keys(stream, &STREAM)?;
     check_forms(stream)?;
-    let mut bytes = Vec::new(alloc);
-    put_whole(alloc, &mut bytes, stream)?;
-    if let Some(length) = stream.cut {
-        bytes.truncate(length);
+    put_whole(told, bytes, stream)?;
+    if let Some(length) = number_in(stream, "cut") {
+        bytes.truncate(length as usize);
     }
-    if let Some(tail) = &stream.tail {
-        put_hex(alloc, &mut bytes, tail.as_str())?;
+    if let Some(tail) = text_in(stream, "tail") {
+        put_hex(told.alloc, bytes, tail)?;
     }
-    let length = bytes.len().saturating_add(stream.zeros);
+    let zeros = number_in(stream, "zeros").unwrap_or(0);
+    let length = bytes.len().saturating_add(zeros as usize);
     bytes.resize(length, 0)?;
-    Ok(bytes)
+    Ok(())
 }
 
 // Refuses a stream that is written in two ways or in none.
-fn check_forms(stream: &Stream) -> Result<()> {
-    let is_drawn = stream.cell.is_some() || !stream.texts.is_empty();
-    match (&stream.rectangles, &stream.records, &stream.hex) {
-        (Some(_), None, None) => Ok(()),
-        (None, Some(_), None) if !is_drawn => Ok(()),
-        (None, None, Some(_)) if !is_drawn && stream.units.is_none() => Ok(()),
+fn check_forms(stream: &Table) -> Result<()> {
+    let is_drawn = has(stream, "cell") || has(stream, "texts");
+    match (
+        has(stream, "rectangles"),
+        has(stream, "records"),
+        has(stream, "hex"),
+    ) {
+        (true, false, false) => Ok(()),
+        (false, true, false) if !is_drawn => Ok(()),
+        (false, false, true) if !is_drawn && !has(stream, "units") => Ok(()),
         _ => bail!("a stream is a drawing with rectangles, or records, or hex alone"),
     }
 }
 
+// Whether a stream has a key.
+fn has(stream: &Table, key: &str) -> bool {
+    stream.contains_key(key)
+}
+
 // Appends the bytes before anything is cut off or put behind.
-fn put_whole(alloc: Global, bytes: &mut Vec<u8>, stream: &Stream) -> Result<()> {
-    if let Some(hex) = &stream.hex {
-        return put_hex(alloc, bytes, hex.as_str());
+fn put_whole(told: &Told<'_>, bytes: &mut Vec<u8>, stream: &Table) -> Result<()> {
+    if let Some(hex) = text_in(stream, "hex") {
+        return put_hex(told.alloc, bytes, hex);
     }
-    put_records(alloc, bytes, "HEADER 600; BGNLIB; LIBNAME LIB")?;
-    let units = units_words(alloc, stream)?;
-    put_records(alloc, bytes, units.as_str())?;
-    put_inner(alloc, bytes, stream)
+    put_records(told, bytes, "HEADER 600; BGNLIB; LIBNAME LIB")?;
+    put_named(
+        told,
+        bytes,
+        "UNITS",
+        text_in(stream, "units").unwrap_or("1 1"),
+    )?;
+    match text_in(stream, "records") {
+        Some(records) => put_records(told, bytes, records)?,
+        None => put_drawing(told, bytes, stream)?,
+    }
+    put_records(told, bytes, "ENDLIB")
 }
 
-// The record UNITS, in words: 1 and 1 where the stream says no other.
-fn units_words(alloc: Global, stream: &Stream) -> Result<String, AllocError> {
-    match &stream.units {
-        Some(units) => format!(in alloc; "UNITS {}", units.as_str()),
-        None => String::from_str(alloc, "UNITS 1 1"),
+// Appends a drawing: one structure with rectangles, and texts behind them.
+fn put_drawing(told: &Told<'_>, bytes: &mut Vec<u8>, stream: &Table) -> Result<()> {
+    put_records(told, bytes, "BGNSTR")?;
+    put_named(
+        told,
+        bytes,
+        "STRNAME",
+        text_in(stream, "cell").unwrap_or("TOP"),
+    )?;
+    for rectangle in list_in(stream, "rectangles") {
+        put_rectangle(told, bytes, rectangle)?;
     }
+    put_records(told, bytes, text_in(stream, "texts").unwrap_or(""))?;
+    put_records(told, bytes, "ENDSTR")
 }
 
-// Appends the records behind UNITS.
-fn put_inner(alloc: Global, bytes: &mut Vec<u8>, stream: &Stream) -> Result<()> {
-    if let Some(records) = &stream.records {
-        put_records(alloc, bytes, records.as_str())?;
-    } else {
-        let drawing = drawing_words(alloc, stream)?;
-        put_records(alloc, bytes, drawing.as_str())?;
-    }
-    put_records(alloc, bytes, "ENDLIB")
+// Appends a rectangle: its corners counterclockwise from the lower left one, which is also the last.
+fn put_rectangle(told: &Told<'_>, bytes: &mut Vec<u8>, rectangle: &Value) -> Result<()> {
+    let Some(numbers) = numbers_of(rectangle) else {
+        bail!("a rectangle is five numbers");
+    };
+    let [layer, x1, y1, x2, y2] = numbers;
+    put_records(told, bytes, "BOUNDARY")?;
+    put_numbers(told, bytes, "LAYER", &[layer])?;
+    put_records(told, bytes, "DATATYPE 0")?;
+    put_numbers(told, bytes, "XY", &[x1, y1, x2, y1, x2, y2, x1, y2, x1, y1])?;
+    put_records(told, bytes, "ENDEL")
 }
 
-// The records of a drawing, in words: one structure with rectangles, and texts behind them.
-fn drawing_words(alloc: Global, stream: &Stream) -> Result<String, AllocError> {
-    let mut words = String::from_str(alloc, "BGNSTR; STRNAME ")?;
-    match &stream.cell {
-        Some(cell) => words.push_str(cell.as_str())?,
-        None => words.push_str("TOP")?,
-    }
-    put_elements(alloc, &mut words, stream)?;
-    words.push_str("; ENDSTR")?;
-    Ok(words)
+// The numbers of a rectangle, where it is five.
+fn numbers_of(rectangle: &Value) -> Option<[i32; 5]> {
+    let Value::Array(values) = rectangle else {
+        return None;
+    };
+    let [layer, x1, y1, x2, y2] = values.as_slice() else {
+        return None;
+    };
+    Some([
+        number_of(layer)?,
+        number_of(x1)?,
+        number_of(y1)?,
+        number_of(x2)?,
+        number_of(y2)?,
+    ])
 }
 
-// Appends the elements of a drawing, in words.
-fn put_elements(alloc: Global, words: &mut String, stream: &Stream) -> Result<(), AllocError> {
-    if let Some(rectangles) = &stream.rectangles {
-        put_rectangles(alloc, words, rectangles)?;
+// A number of a rectangle.
+fn number_of(value: &Value) -> Option<i32> {
+    match value {
+        Value::Integer(number) => i32::try_from(*number).ok(),
+        _ => None,
     }
-    for text in &stream.texts {
-        words.push_str("; TEXT; ")?;
-        words.push_str(text.as_str())?;
-        words.push_str("; ENDEL")?;
-    }
-    Ok(())
-}
-
-// Appends rectangles, in words: their corners counterclockwise from the lower left one, which is also the last.
-fn put_rectangles(
-    alloc: Global,
-    words: &mut String,
-    rectangles: &[[i32; 5]],
-) -> Result<(), AllocError> {
-    for [layer, x1, y1, x2, y2] in rectangles {
-        let head = format!(in alloc; "; BOUNDARY; LAYER {layer}; DATATYPE 0; XY")?;
-        words.push_str(head.as_str())?;
-        let corners = format!(in alloc;
-            " {x1} {y1} {x2} {y1} {x2} {y2} {x1} {y2} {x1} {y1}; ENDEL"
-        )?;
-        words.push_str(corners.as_str())?;
-    }
-    Ok(())
-}
-
-// Appends the bytes that a text writes in hexadecimal, with blanks anywhere.
-fn put_hex(alloc: Global, bytes: &mut Vec<u8>, text: &str) -> Result<()> {
-    let mut digits = String::new(alloc);
-    for word in text.split_ascii_whitespace() {
-        digits.push_str(word)?;
-    }
-    let more = hex::decode(alloc, digits.as_str())?;
-    bytes.extend_from_slice(&more)?;
-    Ok(())
 }

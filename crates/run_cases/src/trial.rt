@@ -1,101 +1,144 @@
 //! A case tried: the run of the program over a desk in memory, and what differs from what is wanted.
 
-use crate::differences::{Ended, differences};
-use crate::files::{Files, Texts, copy_of, files_of, words_of};
-use crate::group::{Case, Group};
-use crate::stream::bytes_of;
-use anyhow::{Context, Result, bail};
-use rt_desk::{MemoryDesk, names_differ};
+use crate::differences::{put_changes, put_said, put_status};
+use crate::files::{Told, put_files, put_words};
+use crate::keys::{CASE, check_keys, number_in};
+use crate::stream::put_stream;
+use anyhow::{Result, bail};
+use rt_desk::{Desk, DeskError, MemoryDesk};
 use rt_run::run;
-use std::alloc::{AllocError, Global};
+use std::alloc::Global;
+use toml::{Table, Value};
 
-// What is run, and what OUT is wanted to hold.
-#[derive(Drop)]
-struct Trial {
-    words: Vec<String>,
-    files: Files,
-    out: Option<Vec<u8>>,
-}
+// Which word of a run names OUT.
+const OUT: usize = 5;
 
-/// What differs from what the case wants, and nothing where it is all as wanted. The error says what is wrong in how
-/// the case is written.
-pub fn try_case(alloc: Global, texts: &Texts<'_>, group: &Group, case: &Case) -> Result<String> {
-    check_wanted(case)?;
-    let trial = Trial {
-        words: words_of(alloc, group, case)?,
-        files: files_of(alloc, texts, group, case)?,
-        out: wanted_out(alloc, case)?,
-    };
-    if case.every_cut {
-        try_cuts(alloc, case, &trial)
-    } else {
-        let files = copy_of(alloc, &trial.files)?;
-        try_once(alloc, case, &trial, files)
+/// Appends what differs from what the case wants, and nothing where it is all as wanted. The error says what is wrong
+/// in how the case is written.
+pub fn try_case(told: &Told<'_>, case: &Table, to: &mut String) -> Result<()> {
+    check_keys(case, &CASE)?;
+    if !matches!(case.get("every_cut"), Some(Value::Boolean(true))) {
+        return try_cut(told, case, usize::MAX, to);
     }
-}
-
-// Refuses a case that wants two things to be said.
-fn check_wanted(case: &Case) -> Result<()> {
-    let in_parts = case.line_begins.is_some() || case.line_ends.is_some();
-    let ways = u8::from(case.line.is_some()) + u8::from(case.said.is_some()) + u8::from(in_parts);
-    if ways > 1 {
-        bail!("a case has line, or line_begins and line_ends, or said");
+    for length in 0..source_length(told, case)? {
+        try_cut(told, case, length, to)?;
+        if !to.is_empty() {
+            let cut = format!(in told.alloc; "with {length} bytes of source.gds; ")?;
+            to.push_str(cut.as_str())?;
+            return Ok(());
+        }
     }
     Ok(())
 }
 
-// The bytes that OUT is wanted to hold.
-fn wanted_out(alloc: Global, case: &Case) -> Result<Option<Vec<u8>>> {
-    match &case.out {
-        Some(out) => Ok(Some(bytes_of(alloc, out).context("out")?)),
-        None => Ok(None),
-    }
-}
-
-// What differs first among the runs with source.gds cut off.
-fn try_cuts(alloc: Global, case: &Case, trial: &Trial) -> Result<String> {
-    let Some((_, source)) = trial.files.first() else {
-        bail!("no file to cut");
+// How many bytes the source has.
+fn source_length(told: &Told<'_>, case: &Table) -> Result<usize> {
+    let Some(Value::Table(source)) = told.value(case, "source") else {
+        bail!("no source to cut");
     };
-    for length in 0..source.len() {
-        let files = cut_files(alloc, trial, length)?;
-        let differs = try_once(alloc, case, trial, files)?;
-        if !differs.is_empty() {
-            return Ok(format!(in alloc; "cut to {length} bytes: {differs}")?);
-        }
-    }
-    Ok(String::new(alloc))
+    let mut bytes = Vec::new(told.alloc);
+    put_stream(told, &mut bytes, source)?;
+    Ok(bytes.len())
 }
 
-// The files with the first cut off.
-fn cut_files(alloc: Global, trial: &Trial, length: usize) -> Result<Files, AllocError> {
-    let mut files = copy_of(alloc, &trial.files)?;
+// Appends what differs in the run with at most so many bytes of source.gds.
+fn try_cut(told: &Told<'_>, case: &Table, length: usize, to: &mut String) -> Result<()> {
+    let mut files = Vec::new(told.alloc);
+    put_files(told, &mut files, case)?;
     if let Some(first) = files.first_mut() {
         first.1.truncate(length);
     }
-    Ok(files)
+    try_words(told, case, &files, to)
 }
 
-// What differs in one run over these files.
-fn try_once(alloc: Global, case: &Case, trial: &Trial, files: Files) -> Result<String> {
-    let before = copy_of(alloc, &files)?;
-    if !names_differ(&files) {
-        bail!("two files of one name");
+// Appends what differs in the run over these files.
+fn try_words(
+    told: &Told<'_>,
+    case: &Table,
+    files: &[(String, Vec<u8>)],
+    to: &mut String,
+) -> Result<()> {
+    let mut words = Vec::new(told.alloc);
+    put_words(told, &mut words, case)?;
+    try_run(told, case, &words, files, to)
+}
+
+// Appends what differs in the run of these words over these files.
+fn try_run(
+    told: &Told<'_>,
+    case: &Table,
+    words: &[String],
+    files: &[(String, Vec<u8>)],
+    to: &mut String,
+) -> Result<()> {
+    let mut desk = desk_of(told.alloc, files)?;
+    plan(case, files.len() as u64, &mut desk)?;
+    put_run(told, case, words, &mut desk, to)?;
+    try_files(told, case, words, files, &desk, to)
+}
+
+// Plans which call of the run fails, behind those that stored the files.
+fn plan(case: &Table, calls: u64, desk: &mut MemoryDesk) -> Result<()> {
+    if let Some(nth) = number_in(case, "fails") {
+        desk.fail_at(calls.saturating_add(nth))?;
     }
-    let mut desk = MemoryDesk::new(alloc, files);
-    if let Some(nth) = case.fails {
-        desk.fail_at(nth)?;
+    Ok(())
+}
+
+// Runs the program over a desk, and appends what differs in its status and in what it says.
+fn put_run(
+    told: &Told<'_>,
+    case: &Table,
+    words: &[String],
+    desk: &mut MemoryDesk,
+    to: &mut String,
+) -> Result<()> {
+    let status = run(told.alloc, words, desk);
+    put_status(told.alloc, case, status.0, to)?;
+    put_said(told.alloc, case, desk.said(), to)?;
+    Ok(())
+}
+
+// Appends which files after the run aren't those that are wanted: those before, and OUT as the case tells it.
+fn try_files(
+    told: &Told<'_>,
+    case: &Table,
+    words: &[String],
+    files: &[(String, Vec<u8>)],
+    after: &MemoryDesk,
+    to: &mut String,
+) -> Result<()> {
+    let mut wanted = desk_of(told.alloc, files)?;
+    store_out(told, case, words, &mut wanted)?;
+    put_changes(told.alloc, words, files, after, &wanted, to)?;
+    Ok(())
+}
+
+// Stores what OUT is wanted to hold, where the case tells it.
+fn store_out(told: &Told<'_>, case: &Table, words: &[String], desk: &mut MemoryDesk) -> Result<()> {
+    let Some(Value::Table(out)) = case.get("out") else {
+        return Ok(());
+    };
+    let Some(name) = words.get(OUT) else {
+        bail!("no word names OUT");
+    };
+    let mut bytes = Vec::new(told.alloc);
+    put_stream(told, &mut bytes, out)?;
+    desk.store(name.as_str(), &bytes)?;
+    Ok(())
+}
+
+// A desk on which these files are stored.
+fn desk_of(alloc: Global, files: &[(String, Vec<u8>)]) -> Result<MemoryDesk> {
+    let mut desk = MemoryDesk::new(alloc, Vec::new(alloc));
+    store_files(files, &mut desk)?;
+    Ok(desk)
+}
+
+// Stores files.
+fn store_files(files: &[(String, Vec<u8>)], desk: &mut MemoryDesk) -> Result<(), DeskError> {
+    for (name, bytes) in files {
+        desk.store(name.as_str(), bytes)?;
     }
-    let status = run(alloc, &trial.words, &mut desk);
-    let ended = Ended {
-        status: status.0,
-        before: &before,
-        after: &desk,
-    };
-    let out = match &trial.out {
-        Some(bytes) => Some(bytes.as_slice()),
-        None => None,
-    };
-    let text = differences(alloc, case, &trial.words, out, &ended)?;
-    Ok(text)
+    Ok(())
 }
