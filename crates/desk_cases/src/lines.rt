@@ -5,7 +5,7 @@ use rt_desk::{DeskError, MemoryDesk};
 use rt_lines::{
     BrokenRule, say_array_step, say_bad_stream, say_coordinate_range, say_cyclic, say_no_axis,
     say_no_such_structure, say_not_built, say_sizes_fault, say_sizes_not_toml, say_source_rule,
-    say_table_fault, say_table_not_toml, say_tables_differ, say_too_deep, say_too_many_items,
+    say_table_fault, say_table_not_toml, say_tables_differ, say_too_deep, say_too_many,
     say_unfetched, say_unmapped_layer, say_unsupported, say_usage,
 };
 use rt_tech::{RuleName, TableCause, Which};
@@ -31,7 +31,7 @@ enum Line {
     CoordinateRange(u64),
     TooDeep,
     SourceRule(RuleName, Cell, Cell, i64, i64),
-    TooManyItems(u64),
+    TooMany(u64, &'static str),
     Unfetched(DeskError),
     NotBuilt,
 }
@@ -40,10 +40,11 @@ enum Line {
 #[derive(Drop)]
 struct Names {
     one: Text,
+    masks: [Text; 2],
     ring: Vec<Text>,
 }
 
-static LINES: [(Line, &'static str); 37] = [
+static LINES: [(Line, &'static str); 40] = [
     (
         Line::Usage,
         "usage: retarget or check SOURCE STABLE TTABLE SIZES OUT CERT, or make N OUT\n",
@@ -142,7 +143,7 @@ static LINES: [(Line, &'static str); 37] = [
             2,
             3,
         ),
-        "source rule: width apart at -1 2 and 3 -4: found 2, needed 3\n",
+        "source rule: width via at -1 2 and 3 -4: found 2, needed 3\n",
     ),
     (
         Line::SourceRule(
@@ -152,9 +153,30 @@ static LINES: [(Line, &'static str); 37] = [
             -9,
             10,
         ),
-        "source rule: space apart at 0 0 and 5 0: found -9, needed 10\n",
+        "source rule: space via at 0 0 and 5 0: found -9, needed 10\n",
     ),
-    (Line::TooManyItems(60_000), "too many: 60000 items\n"),
+    (
+        Line::SourceRule(
+            RuleName::Enclose(0),
+            Cell { x: 0, y: 0 },
+            Cell { x: -5, y: 0 },
+            1,
+            2,
+        ),
+        "source rule: enclose via m1 at 0 0 and -5 0: found 1, needed 2\n",
+    ),
+    (
+        Line::SourceRule(
+            RuleName::Cap,
+            Cell { x: 0, y: 7 },
+            Cell { x: 0, y: 8 },
+            1,
+            2,
+        ),
+        "source rule: cap at 0 7 and 0 8: found 1, needed 2\n",
+    ),
+    (Line::TooMany(60_000, "items"), "too many: 60000 items\n"),
+    (Line::TooMany(9, "strips"), "too many: 9 strips\n"),
     (Line::Unfetched(DeskError::Failed), "read fault: cell.gds\n"),
     (Line::Unfetched(DeskError::Missing), "missing: cell.gds\n"),
     (Line::Unfetched(DeskError::TooLong), "too long: cell.gds\n"),
@@ -176,6 +198,15 @@ fn say(desk: &mut MemoryDesk, line: &Line, names: &Names) -> Result<(), DeskErro
     }
 }
 
+// The names of the rule's masks.
+fn names_of<'a>(rule: &RuleName, names: &'a Names) -> &'a [Text] {
+    match rule {
+        RuleName::Enclose(_) => &names.masks[..2],
+        RuleName::Cap => &[],
+        _ => &names.masks[..1],
+    }
+}
+
 // Says a line about the source.
 fn say_of_source(desk: &mut MemoryDesk, line: &Line, names: &Names) -> Result<(), DeskError> {
     match line {
@@ -189,7 +220,7 @@ fn say_of_source(desk: &mut MemoryDesk, line: &Line, names: &Names) -> Result<()
         Line::SourceRule(rule, p, q, found, needed) => {
             let broken = BrokenRule {
                 rule: *rule,
-                mask: &names.one,
+                names: names_of(rule, names),
                 p: *p,
                 q: *q,
                 found: *found,
@@ -197,7 +228,7 @@ fn say_of_source(desk: &mut MemoryDesk, line: &Line, names: &Names) -> Result<()
             };
             say_source_rule(desk, &broken)
         }
-        Line::TooManyItems(count) => say_too_many_items(desk, *count),
+        Line::TooMany(count, what) => say_too_many(desk, *count, what),
         Line::Unfetched(error) => say_unfetched(desk, error, "cell.gds"),
         _ => say_not_built(desk),
     }
@@ -209,12 +240,14 @@ fn text(alloc: Global, bytes: &[u8]) -> Result<Text, Fail> {
 }
 
 fn some_names(alloc: Global) -> Result<Names, Fail> {
+    let masks = [text(alloc, b"via")?, text(alloc, b"m1")?];
     let mut ring = Vec::new(alloc);
     for bytes in [b"A", b"B"] {
         ring.push(text(alloc, bytes)?)?;
     }
     Ok(Names {
         one: text(alloc, b"apart")?,
+        masks,
         ring,
     })
 }

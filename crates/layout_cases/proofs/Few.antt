@@ -8,8 +8,8 @@ use Rattle.rt_rows.specs.declared.positions.TheConstants.{EXTENT_LIMIT}
 use Rattle.rt_tech.specs.declared.table.Tech.{Tech}
 use Rattle.rt_tech.specs.declared.table.Mask.{Mask}
 use Rattle.rt_tech.specs.Tech.{IsLength, IsGrid, IsMeasuredMask, AreDistinct, IsMeasured}
-use Rattle.rt_template.specs.declared.job.Strip.{Strip}
-use Rattle.rt_template.specs.Strips.{Placed, placed, no_strip, mask_of}
+use Rattle.rt_strips.specs.declared.listing.Strip.{Strip}
+use Rattle.rt_strips.specs.Placed.{Placed, placed, no_strip, mask_of}
 use Rattle.rt_template.specs.Separate.{AreOnMasksOf, extent_side_by_side}
 use Rattle.rt_tech.proofs.Lengths.{width_is_length, space_is_length}
 

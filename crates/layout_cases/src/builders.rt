@@ -1,19 +1,22 @@
-//! What the cases are made of: texts, tables of two masks, strips, jobs and their positions.
+//! What the cases are made of: texts, tables of two masks, layouts, strips, jobs and their positions.
 ghost use Rattle.std.specs.Prelude.{◌≡◌, ◌<◌, ◌≤◌, [], ◌∷◌, pos, length, map, All, IfOk};
 ghost use Rattle.std.specs.Bool.{OnTrue};
 ghost use Rattle.rt_tech.specs.Tech.{IsMeasured, IsMeasuredMask};
 ghost use Rattle.rt_rows.specs.Places.{places};
-ghost use Rattle.rt_template.specs.Strips.{placed};
+ghost use Rattle.rt_strips.specs.Placed.{placed};
 ghost use Rattle.rt_template.specs.Across.{strips_of, MeetsAcross};
 ghost use Rattle.rt_template.specs.Upwards.{MeetsUpwards};
 ghost use Rattle.rt_template.specs.Separate.{AreSeparateStrips, AreOnMasksOf};
 ghost use Rattle.rt_carry.specs.Shapes.{HaveOneEntryEach};
+ghost use Rattle.layout_cases.specs.Apart.{AreApart};
 
 use rt_base::{List, OutOfMemory, Rect, Text};
 use rt_islands::place;
+use rt_layout::Layout;
 use rt_rows::Positions;
+use rt_strips::Strip;
 use rt_tech::{Mask, Role, Tech};
-use rt_template::{Job, Strip};
+use rt_template::Job;
 use std::alloc::Global;
 use std::test::Fail;
 
@@ -38,6 +41,8 @@ pub struct Rules {
     pub grid: u8,
     /// The data type of both masks.
     pub datatype: u8,
+    /// What the shapes of each mask are for.
+    pub roles: [Role; 2],
     /// The numbers of each mask.
     pub numbers: [Numbers; 2],
     ghost some: { 1 ≤ grid },
@@ -45,7 +50,8 @@ pub struct Rules {
 }
 
 // A mask whose name is one letter, on the layer of the letter's code.
-fn mask(alloc: Global, letter: u8, datatype: u8, numbers: &Numbers) -> Result<Mask, Fail>
+fn mask(alloc: Global, letter: u8, rules: &Rules, nth: usize) -> Result<Mask, Fail>
+    requires nth { nth < 2 }
     requires from { 97 ≤ letter }
     requires to { letter ≤ 122 }
     ensures { IfOk result (λ mask. IsMeasuredMask mask × (mask.name ≡ letter ∷ []) × (mask.layer ≡ pos letter)) }
@@ -54,12 +60,12 @@ fn mask(alloc: Global, letter: u8, datatype: u8, numbers: &Numbers) -> Result<Ma
     name.push(letter)?;
     Ok(Mask {
         name: Text::of(name).ok_or("not a text")?,
-        role: Role::Metal,
+        role: rules.roles[nth],
         layer: i16::from(letter),
-        datatype: i16::from(datatype),
+        datatype: i16::from(rules.datatype),
         note: None,
-        width: i64::from(numbers.width),
-        space: i64::from(numbers.space),
+        width: i64::from(rules.numbers[nth].width),
+        space: i64::from(rules.numbers[nth].space),
         upper: 0,
         lowers: List::new(alloc),
     })
@@ -69,8 +75,8 @@ fn mask(alloc: Global, letter: u8, datatype: u8, numbers: &Numbers) -> Result<Ma
 pub fn table(alloc: Global, rules: &Rules) -> Result<Tech, Fail>
     ensures { IfOk result IsMeasured }
 {
-    let first = mask(alloc, b'a', rules.datatype, &rules.numbers[0])?;
-    let second = mask(alloc, b'b', rules.datatype, &rules.numbers[1])?;
+    let first = mask(alloc, b'a', rules, 0)?;
+    let second = mask(alloc, b'b', rules, 1)?;
     let mut masks = List::new(alloc);
     masks.push(first)?;
     masks.push(second)?;
@@ -84,6 +90,48 @@ pub fn table(alloc: Global, rules: &Rules) -> Result<Tech, Fail>
         kinds: List::new(alloc),
         ignored: List::new(alloc),
         drop_unlisted: false,
+    })
+}
+
+/// A rectangle of a case: its mask, and its left, bottom, right and top.
+pub type Placing = (u32, [i32; 4]);
+
+/// The rectangle, if it has a cell.
+pub fn rect(placing: &Placing) -> Option<Rect> {
+    let [left, bottom, right, top] = placing.1;
+    if left < right && bottom < top {
+        Some(Rect {
+            x1: i64::from(left),
+            y1: i64::from(bottom),
+            x2: i64::from(right),
+            y2: i64::from(top),
+        })
+    } else {
+        None
+    }
+}
+
+// The rectangles of a mask.
+fn rects(alloc: Global, placings: &[Placing], mask: u32) -> Result<List<Rect>, Fail> {
+    let mut rects = List::new(alloc);
+    for placing in placings {
+        if placing.0 == mask {
+            rects.push(rect(placing).ok_or("an empty rectangle")?)?;
+        }
+    }
+    Ok(rects)
+}
+
+/// A layout of two masks and no label.
+pub fn layout(alloc: Global, placings: &[Placing]) -> Result<Layout, Fail> {
+    let first = rects(alloc, placings, 0)?;
+    let second = rects(alloc, placings, 1)?;
+    let mut masks = List::new(alloc);
+    masks.push(first)?;
+    masks.push(second)?;
+    Ok(Layout {
+        masks,
+        labels: List::new(alloc),
     })
 }
 
@@ -107,6 +155,7 @@ fn square(mask: u32, side: u8, x: i8, y: i8) -> Strip
 const SOURCE: Rules = Rules {
     grid: 1,
     datatype: 0,
+    roles: [Role::Metal, Role::Metal],
     numbers: [
         Numbers { width: 4, space: 4 },
         Numbers { width: 4, space: 4 },
@@ -151,6 +200,44 @@ fn are_below(strips: &[Strip], count: usize) -> bool
     ensures { OnTrue result (All (λ strip. strip.mask < count) strips.now) }
 {
     strips.iter().all(|strip| (strip.mask as usize) < count)
+}
+
+// Whether the strips are of two masks, or a column or a row lies between them.
+fn are_apart(a: &Strip, b: &Strip) -> bool
+    ensures { OnTrue result (AreApart a.now b.now) }
+{
+    if a.mask != b.mask {
+        return true;
+    }
+    if a.at.x2 < b.at.x1 {
+        return true;
+    }
+    if b.at.x2 < a.at.x1 {
+        return true;
+    }
+    if a.at.y2 < b.at.y1 {
+        return true;
+    }
+    b.at.y2 < a.at.y1
+}
+
+// Whether each of the strips is apart from the last one.
+fn is_apart(earlier: &[Strip], last: &Strip) -> bool
+    ensures { OnTrue result (All (λ strip. AreApart strip last.now) earlier.now) }
+{
+    earlier.iter().all(|strip| are_apart(strip, last))
+}
+
+/// Whether no two strips of one mask share a cell or a side.
+pub fn are_separate(strips: &[Strip]) -> bool
+    ensures { OnTrue result (AreSeparateStrips (map placed strips.now)) }
+{
+    for i in 0..strips.len() {
+        if !is_apart(&strips[..i], &strips[i]) {
+            return false;
+        }
+    }
+    true
 }
 
 /// The least positions of at most ten strips.

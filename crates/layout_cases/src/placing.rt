@@ -1,7 +1,7 @@
 //! Where strips of two masks come to lie.
-use crate::builders::{Numbers, Rules, job, positions, squares};
+use crate::builders::{Numbers, Rules, are_separate, job, positions, squares};
 use rt_rows::Positions;
-use rt_strips::are_separate;
+use rt_tech::Role;
 use std::alloc::Global;
 use std::process::Abort;
 use std::test::Fail;
@@ -16,6 +16,7 @@ fn moved(
     let to = Rules {
         grid: 1,
         datatype: 0,
+        roles: [Role::Metal, Role::Metal],
         numbers: [numbers, numbers],
     };
     let job = job(alloc, squares(alloc, 4, corners)?, &to)?;

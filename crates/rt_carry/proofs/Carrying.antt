@@ -8,14 +8,15 @@ use Rattle.rt_rules.specs.Islands.{AreIslands}
 use Rattle.rt_cells.specs.Rectangles.{columns_between, rows_between}
 use Rattle.rt_cells.proofs.Times.{not_negative, times_positive, times_beyond, times_gap}
 use Rattle.rt_rules.proofs.Islands.{islands_keep_width, islands_keep_space}
+use Rattle.rt_rules.proofs.Listed.{masks_keep}
 use Rattle.rt_tech.specs.Tech.{width_of, space_of, IsMeasured}
 use Rattle.rt_rows.specs.declared.row.Var.{Var}
 use Rattle.rt_rows.specs.declared.row.Var.TheVariants.{L, R, B, T}
 use Rattle.rt_rows.specs.declared.name.Name.TheVariants.{Wide, Gap, Run}
 use Rattle.rt_rows.proofs.Rows.{beyond_met}
 use Rattle.rt_template.specs.declared.job.Job.{Job}
-use Rattle.rt_template.specs.Strips.{mask_of, strip_at, left_of, right_of, bottom_of, top_of, areas_of}
-use Rattle.rt_template.specs.Standing.{IsStrip, AreOfOneMask, ShareRow}
+use Rattle.rt_strips.specs.Placed.{mask_of, strip_at, left_of, right_of, bottom_of, top_of, areas_of, covered_by}
+use Rattle.rt_strips.specs.Standing.{IsStrip, AreOfOneMask, ShareRow}
 use Rattle.rt_template.specs.Across.{strips_of, width_wanted, space_wanted, MeetsAcross}
 use Rattle.rt_template.specs.Upwards.{columns_apart, IsWholeChain, MeetsUpwards}
 use Rattle.rt_template.specs.Upwards.IsChain.{one}
@@ -161,14 +162,13 @@ module _ (job : Job) (at : Var → ℤ) (separate : AreSeparateStrips (strips_of
 -- positions that meet both templates of separate strips draw a layout that breaks no target rule
 pub drawings_keep : DrawingsBreakNoRule
 drawings_keep job at separate source target across upwards =
+    masks_keep job.target.grid job.target (λ m. covered_by m (drawn job.target.grid at (strips_of job)))
+    (λ m _.
+    let islands = drawn_islands job at separate target across upwards m in
+    let grid = job.target.grid in
+    let width = times_positive grid (width_of job.target m) target.grid.low (width_positive job.target target m) in
+    let space = times_positive grid (space_of job.target m) target.grid.low (space_positive job.target target m) in
     record {
-      masks = λ m _.
-          let islands = drawn_islands job at separate target across upwards m in
-          let grid = job.target.grid in
-          let width = times_positive grid (width_of job.target m) target.grid.low (width_positive job.target target m) in
-          let space = times_positive grid (space_of job.target m) target.grid.low (space_positive job.target target m) in
-          record {
-            keeps_width = islands_keep_width _ _ _ width space islands;
-            keeps_space = islands_keep_space _ _ _ width space islands;
-          };
-    }
+      width = islands_keep_width _ _ _ width space islands;
+      space = islands_keep_space _ _ _ width space islands;
+    })

@@ -4,8 +4,8 @@ use Rattle.std.proofs.lemmas.Bool.{eqb-true}
 use Rattle.std.proofs.lemmas.List.Elements.{All-map, All-contains, All-filter, filter_passes, All-from_get_or}
 use Rattle.rt_cells.specs.Rectangles.{Rectangle}
 use Rattle.rt_rows.specs.declared.row.Var.{Var}
-use Rattle.rt_template.specs.Strips.{Placed, no_strip, mask_of, areas_of}
-use Rattle.rt_template.specs.Standing.{IsStrip}
+use Rattle.rt_strips.specs.Placed.{Placed, no_strip, mask_of, areas_of}
+use Rattle.rt_strips.specs.Standing.{IsStrip}
 use Rattle.rt_template.specs.Drawing.{drawn_area, drawn_from, drawn}
 
 -- a drawing has a rectangle for each strip

@@ -8,7 +8,7 @@ use Rattle.rt_rows.specs.declared.row.Var.TheVariants.{L, R, B, T, Width, Height
 use Rattle.rt_rows.specs.declared.name.Name.TheVariants.{Lo, Hi, Top, Wide, Tall}
 use Rattle.rt_rows.proofs.Rows.{at_least_met, at_most_met, beyond_met}
 use Rattle.rt_template.specs.declared.job.Job.{Job}
-use Rattle.rt_template.specs.Strips.{mask_of}
+use Rattle.rt_strips.specs.Placed.{mask_of}
 use Rattle.rt_template.specs.Across.{strips_of, width_wanted, MeetsAcross}
 use Rattle.rt_template.specs.Upwards.{MeetsUpwards}
 use Rattle.rt_carry.specs.Shapes.{IsInExtent, AreAllInExtent}

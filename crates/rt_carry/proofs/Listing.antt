@@ -8,15 +8,15 @@ use Rattle.rt_tech.specs.Tech.{mask_at}
 use Rattle.rt_rows.specs.declared.row.Var.{Var}
 use Rattle.rt_rows.specs.declared.row.Var.TheVariants.{L, R, B, T}
 use Rattle.rt_template.specs.declared.job.Job.{Job}
-use Rattle.rt_template.specs.declared.job.Strip.{Strip}
-use Rattle.rt_template.specs.Strips.{placed, no_strip, mask_of}
-use Rattle.rt_template.specs.Standing.{IsStrip}
+use Rattle.rt_strips.specs.declared.listing.Strip.{Strip}
+use Rattle.rt_strips.specs.Placed.{placed, no_strip, mask_of}
+use Rattle.rt_strips.specs.Standing.{IsStrip}
 use Rattle.rt_template.specs.Across.{strips_of}
 use Rattle.rt_template.specs.Drawing.{drawn_area, drawn}
 use Rattle.rt_template.specs.Separate.{AreOnMasksOf}
 use Rattle.gds_stream.specs.declared.cell.Shape.{Shape}
 use Rattle.rt_carry.specs.Shapes.{layer_of_mask, datatype_of_mask, shape_of, strip_drawn}
-use Rattle.rt_template.proofs.Strips.{strip_there, strip_is}
+use Rattle.rt_strips.proofs.Placed.{strip_there, strip_is}
 use Rattle.rt_carry.proofs.Drawn.{length_drawn_from, drawn_from_at}
 
 -- the mask of strip i

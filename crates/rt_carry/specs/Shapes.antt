@@ -8,8 +8,8 @@ use Rattle.rt_rows.specs.declared.row.Var.{Var}
 use Rattle.rt_rows.specs.declared.row.Var.TheVariants.{L, R, B, T}
 use Rattle.rt_rows.specs.declared.positions.Positions.{Positions}
 use Rattle.rt_template.specs.declared.job.Job.{Job}
-use Rattle.rt_template.specs.Strips.{Placed, mask_of}
-use Rattle.rt_template.specs.Standing.{IsStrip}
+use Rattle.rt_strips.specs.Placed.{Placed, mask_of}
+use Rattle.rt_strips.specs.Standing.{IsStrip}
 use Rattle.rt_template.specs.Across.{strips_of}
 use Rattle.rt_template.specs.Drawing.{drawn_area, drawn}
 use Rattle.gds_stream.specs.declared.cell.Shape.{Shape}

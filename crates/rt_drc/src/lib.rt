@@ -1,9 +1,18 @@
-//! The check of a drawing of separate strips against the rules of width and space of a table.
+//! The check of a layout's view against the rules of width and space of a table.
 #![tactic(auto)]
 
-mod laws;
+mod axes;
+mod clash;
+mod corners;
+mod gaps;
+mod near;
+mod numbers;
+mod pieces;
+mod reach;
+mod rows;
 mod rules;
-mod search;
+mod space;
+mod turned;
+mod width;
 
-pub use laws::first_breach_breaks;
 pub use rules::check_rules;

@@ -15,7 +15,7 @@ pub mod Scaled
 -- the rows that carry
 pub mod Rows
 pub mod Untouched
--- rules by the cells alone; the public laws; an L that is carried
+-- what a list covers, by numbers; the public laws; an L that is carried
 pub mod Alike
 pub mod Offered
 pub mod Sample

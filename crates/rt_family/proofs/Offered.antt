@@ -13,7 +13,8 @@ use Rattle.rt_family.proofs.Drawn.{pieces_joined, pieces_connected}
 use Rattle.rt_family.proofs.Rules.{carried_width, carried_space, carried_pieces, carried_notch_of_rows, carried_notch_of_columns}
 use Rattle.rt_family.proofs.Hosted.{drawn_hosts_cover, clear_apart}
 use Rattle.rt_family.proofs.Scaled.{scaled_carried, scaled_columns}
-use Rattle.rt_family.proofs.Alike.{width_alike, space_alike, covers_alike}
+use Rattle.rt_rules.proofs.Alike.{width_alike, space_alike}
+use Rattle.rt_family.proofs.Alike.{covers_alike}
 
 one_number : (a b : ℕ) → (a ≡ b) ⊎ ((a < b) ⊎ (b < a))
 one_number a b = grind arith

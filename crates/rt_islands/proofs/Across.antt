@@ -13,8 +13,8 @@ use Rattle.rt_rows.specs.declared.name.Name.TheVariants.{Lo, Hi, Zero, Top, Wide
 use Rattle.rt_rows.specs.Rows.{MeetsRow}
 use Rattle.rt_tech.specs.Tech.{space_of, IsMeasured}
 use Rattle.rt_template.specs.declared.job.Job.{Job}
-use Rattle.rt_template.specs.Strips.{mask_of, bottom_of, top_of}
-use Rattle.rt_template.specs.Standing.{IsStrip, rows_apart}
+use Rattle.rt_strips.specs.Placed.{mask_of, bottom_of, top_of}
+use Rattle.rt_strips.specs.Standing.{IsStrip, rows_apart}
 use Rattle.rt_template.specs.Separate.{AreSeparateStrips}
 use Rattle.rt_template.specs.Across.{strips_of, width_wanted, space_wanted, IsKeptRightOf, InAcross, row_across, MeetsAcross, IsLeastAcross}
 use Rattle.rt_islands.specs.declared.item.Item.{Item}
@@ -25,7 +25,7 @@ use Rattle.rt_islands.specs.Views.{IsSeenAcross, AreSeenAcross}
 use Rattle.rt_rows.proofs.Rows.{at_least_meets, at_least_met, at_most_meets, beyond_meets, beyond_met}
 use Rattle.rt_tech.proofs.Lengths.{space_is_length}
 use Rattle.rt_template.proofs.Separate.{none_touches, none_climbed}
-use Rattle.rt_template.proofs.Strips.{strip_there, strip_below}
+use Rattle.rt_strips.proofs.Placed.{strip_there, strip_below}
 
 -- the gap and its limit by other names
 pub near_as : (a b c d n a' b' c' d' n' : ℤ) → a ≡ a' → b ≡ b' → c ≡ c' → d ≡ d' → n ≡ n' → gap_of a b c d <ℤ n → gap_of a' b' c' d' <ℤ n'

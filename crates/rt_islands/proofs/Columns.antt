@@ -10,7 +10,7 @@ use Rattle.rt_rows.specs.declared.row.Var.TheVariants.{L, R}
 use Rattle.rt_rows.specs.Places.{places}
 use Rattle.rt_tech.specs.Tech.{IsMeasured}
 use Rattle.rt_template.specs.declared.job.Job.{Job}
-use Rattle.rt_template.specs.Standing.{IsStrip}
+use Rattle.rt_strips.specs.Standing.{IsStrip}
 use Rattle.rt_template.specs.Separate.{AreSeparateStrips}
 use Rattle.rt_template.specs.Across.{strips_of, IsLeastAcross}
 use Rattle.rt_template.specs.Upwards.{IsLeastUpwards}
@@ -22,7 +22,7 @@ use Rattle.rt_islands.specs.Views.{AreColumns, IsLineAcross, IsLineUpwards}
 use Rattle.rt_islands.specs.Placing.{PlacesEach, ArePlacesOf}
 use Rattle.rt_islands.proofs.Across.{least_across}
 use Rattle.rt_islands.proofs.Upwards.{least_upwards}
-use Rattle.rt_template.proofs.Strips.{strip_below}
+use Rattle.rt_strips.proofs.Placed.{strip_below}
 
 start_in_reach : (start size extent : ℤ) → pos 0 ≤ℤ start → pos 1 ≤ℤ size → (start +ℤ size) ≤ℤ extent → extent ≤ℤ EXTENT_LIMIT → IsSide start
 start_in_reach start size extent a b c d = record { low = omega (arith, ints); high = omega (arith, ints) }

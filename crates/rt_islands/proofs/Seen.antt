@@ -11,16 +11,16 @@ use Rattle.rt_path.specs.Least.{value_at}
 use Rattle.rt_tech.specs.declared.table.Tech.{Tech}
 use Rattle.rt_tech.specs.Tech.{width_of, space_of}
 use Rattle.rt_template.specs.declared.job.Job.{Job}
-use Rattle.rt_template.specs.declared.job.Strip.{Strip}
-use Rattle.rt_template.specs.Strips.{Placed, placed, no_strip, strip_at, mask_of}
-use Rattle.rt_template.specs.Standing.{IsStrip}
+use Rattle.rt_strips.specs.declared.listing.Strip.{Strip}
+use Rattle.rt_strips.specs.Placed.{Placed, placed, no_strip, strip_at, mask_of}
+use Rattle.rt_strips.specs.Standing.{IsStrip}
 use Rattle.rt_template.specs.Across.{strips_of}
 use Rattle.rt_template.specs.Separate.{extent_side_by_side}
 use Rattle.rt_islands.specs.declared.item.Item.{Item}
 use Rattle.rt_islands.specs.declared.line.Line.{Line}
 use Rattle.rt_islands.specs.Items.{no_item, item_at, IsItem, side_by_side}
 use Rattle.rt_islands.specs.Views.{IsWanted, IsSeenAcross, IsSeenUpwards, AreFirst}
-use Rattle.rt_template.proofs.Strips.{strip_below, strip_is}
+use Rattle.rt_strips.proofs.Placed.{strip_below, strip_is}
 use Rattle.rt_islands.proofs.Exactly.{below_or_there}
 
 -- numbers that are read and written again are the same

@@ -12,8 +12,8 @@ use Rattle.rt_rows.specs.declared.name.Name.TheVariants.{Lo, Hi, Zero, Top, Wide
 use Rattle.rt_rows.specs.Rows.{MeetsRow}
 use Rattle.rt_tech.specs.Tech.{IsMeasured}
 use Rattle.rt_template.specs.declared.job.Job.{Job}
-use Rattle.rt_template.specs.Strips.{mask_of}
-use Rattle.rt_template.specs.Standing.{IsStrip}
+use Rattle.rt_strips.specs.Placed.{mask_of}
+use Rattle.rt_strips.specs.Standing.{IsStrip}
 use Rattle.rt_template.specs.Separate.{AreSeparateStrips}
 use Rattle.rt_template.specs.Across.{strips_of, width_wanted, space_wanted}
 use Rattle.rt_template.specs.Upwards.{IsKeptAbove, IsChain, IsWholeChain, InUpwards, row_upwards, MeetsUpwards, IsLeastUpwards}
@@ -25,7 +25,7 @@ use Rattle.rt_islands.specs.Views.{IsSeenUpwards, AreSeenUpwards}
 use Rattle.rt_rows.proofs.Rows.{at_least_meets, at_least_met, at_most_meets, beyond_meets, beyond_met}
 use Rattle.rt_tech.proofs.Lengths.{width_is_length}
 use Rattle.rt_template.proofs.Separate.{none_stands, none_touches, none_climbed, chain_of_one}
-use Rattle.rt_template.proofs.Strips.{strip_there, strip_below}
+use Rattle.rt_strips.proofs.Placed.{strip_there, strip_below}
 use Rattle.rt_islands.proofs.Across.{near_as, at_most_as, end_within, reach_within, end_reached, end_beyond, gap_kept, end_least, from_equal, to_equal}
 
 one_high : (b t w : ℤ) → pos 1 ≤ℤ w → (b +ℤ w) ≤ℤ t → (b +ℤ pos 1) ≤ℤ t

@@ -4,7 +4,7 @@ use Rattle.rt_path.specs.Least.{value_at}
 use Rattle.rt_base.specs.Plane.{IsSide}
 use Rattle.rt_tech.specs.Tech.{space_of}
 use Rattle.rt_template.specs.declared.job.Job.{Job}
-use Rattle.rt_template.specs.Strips.{mask_of, left_of, right_of, bottom_of, top_of}
+use Rattle.rt_strips.specs.Placed.{mask_of, left_of, right_of, bottom_of, top_of}
 use Rattle.rt_template.specs.Across.{strips_of, width_wanted, space_wanted}
 use Rattle.rt_islands.specs.declared.item.Item.{Item}
 use Rattle.rt_islands.specs.declared.line.Line.{Line}

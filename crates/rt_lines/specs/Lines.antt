@@ -47,16 +47,16 @@ abbrev pub table_word : Which → List ℕ
 table_word Source = codes "source table: "
 table_word Target = codes "target table: "
 
--- the kind of a rule, before the name of its mask. A rule that no table has yet is never answered, and never said
+-- the kind of a rule, before the names of its masks
 abbrev pub rule_word : RuleName → List ℕ
-rule_word (Width mask) = codes "width "
-rule_word (Space mask) = codes "space "
-rule_word (Size mask) = codes "size "
-rule_word (Enclose place) = codes "enclose "
-rule_word Cap = codes "cap "
-rule_word Ext = codes "ext "
-rule_word Cross = codes "cross "
-rule_word (Apart place) = codes "apart "
+rule_word (Width mask) = codes "width"
+rule_word (Space mask) = codes "space"
+rule_word (Size mask) = codes "size"
+rule_word (Enclose place) = codes "enclose"
+rule_word Cap = codes "cap"
+rule_word Ext = codes "ext"
+rule_word Cross = codes "cross"
+rule_word (Apart place) = codes "apart"
 
 -- the words are of none of the forms
 abbrev pub usage_line : List ℕ
@@ -126,11 +126,15 @@ too_deep_line = line (codes "too deep" ∷ [])
 abbrev pub cell_parts : Cell → List (List ℕ) → List (List ℕ)
 cell_parts cell parts = signed_decimal cell.x ∷ codes " " ∷ signed_decimal cell.y ∷ parts
 
--- the source breaks a rule of the named mask, between two cells
-abbrev pub source_rule_line : RuleName → List ℕ → Cell → Cell → ℤ → ℤ → List ℕ
-source_rule_line rule mask p q found needed =
-    line (codes "source rule: " ∷ rule_word rule ∷ mask ∷ codes " at " ∷ cell_parts p (codes " and " ∷ cell_parts q
-    (codes ": found " ∷ signed_decimal found ∷ codes ", needed " ∷ signed_decimal needed ∷ [])))
+-- between which cells a rule is broken, and what was found and needed
+abbrev pub breach_parts : Cell → Cell → ℤ → ℤ → List (List ℕ)
+breach_parts p q found needed = codes " at " ∷ cell_parts p (codes " and " ∷ cell_parts q
+    (codes ": found " ∷ signed_decimal found ∷ codes ", needed " ∷ signed_decimal needed ∷ []))
+
+-- the source breaks a rule between two cells; the rule goes by its kind and the names of its masks: one, two or none
+abbrev pub source_rule_line : RuleName → List (List ℕ) → Cell → Cell → ℤ → ℤ → List ℕ
+source_rule_line rule names p q found needed =
+    line (codes "source rule: " ∷ rule_word rule ∷ flat_map named names ∷ breach_parts p q found needed)
 
 -- the file of that name wasn't fetched; want of memory has no line
 abbrev pub unfetched_line : DeskError → List ℕ → List ℕ
@@ -139,9 +143,9 @@ unfetched_line Missing name = line (codes "missing: " ∷ name ∷ [])
 unfetched_line TooLong name = line (codes "too long: " ∷ name ∷ [])
 unfetched_line OutOfMemory name = []
 
--- the layout has too many rectangles and labels
-abbrev pub too_many_items_line : ℕ → List ℕ
-too_many_items_line count = line (codes "too many: " ∷ decimal count ∷ codes " items" ∷ [])
+-- there are too many of these: so many
+abbrev pub too_many_line : ℕ → List ℕ → List ℕ
+too_many_line count what = line (codes "too many: " ∷ decimal count ∷ codes " " ∷ what ∷ [])
 
 -- the files ask for what isn't built yet
 abbrev pub not_built_line : List ℕ

@@ -1,7 +1,7 @@
 //! The lines on the source: its stream, its flattening, and the rules that it breaks.
 ghost use Rattle.std.specs.List.{flat_map};
 ghost use Rattle.rt_lines.specs.Said.{SaysLine};
-ghost use Rattle.rt_lines.specs.Lines.{bad_stream_line, unsupported_line, no_such_structure_line, named, cyclic_line, unmapped_layer_line, array_step_line, coordinate_range_line, too_deep_line, source_rule_line, too_many_items_line};
+ghost use Rattle.rt_lines.specs.Lines.{bad_stream_line, unsupported_line, no_such_structure_line, named, cyclic_line, unmapped_layer_line, array_step_line, coordinate_range_line, too_deep_line, line, breach_parts, source_rule_line, too_many_line};
 
 use crate::pieces::{Piece, say_pieces};
 use crate::words::{rule_word, stream_cause};
@@ -16,8 +16,8 @@ use rt_tech::RuleName;
 pub struct BrokenRule<'a> {
     /// The rule.
     pub rule: RuleName,
-    /// The name of its mask.
-    pub mask: &'a Text,
+    /// The names of its masks: one, two or none.
+    pub names: &'a [Text],
     /// One of the two cells.
     pub p: Cell,
     /// The other one.
@@ -150,17 +150,29 @@ pub fn say_too_deep<D: Desk>(desk: &mut D) -> Result<(), DeskError>
     say_pieces(desk, &[Piece::Word("too deep"), Piece::Word("\n")])
 }
 
-/// Says `source rule: RULE at PX PY and QX QY: found F, needed G`, where RULE is `width M` or `space M` with the name
-/// of the mask. Errors are those of `say_pieces`.
+/// Says `source rule: RULE at PX PY and QX QY: found F, needed G`, where RULE is the kind of the rule and behind it the names of its masks, as
+/// `width M`. Errors are those of `say_pieces`.
 pub fn say_source_rule<D: Desk>(desk: &mut D, broken: &BrokenRule<'_>) -> Result<(), DeskError>
-    ensures { SaysLine (D.seen desk.old) (D.seen desk.new) (source_rule_line broken.now.rule broken.now.mask.now broken.now.p broken.now.q broken.now.found broken.now.needed) result }
+    ensures { SaysLine (D.seen desk.old) (D.seen desk.new) (source_rule_line broken.now.rule broken.now.names.now broken.now.p broken.now.q broken.now.found broken.now.needed) result }
 {
     say_pieces(
         desk,
         &[
             Piece::Word("source rule: "),
             Piece::Word(rule_word(&broken.rule)),
-            Piece::Name(broken.mask),
+        ],
+    )?;
+    say_names(desk, broken.names)?;
+    say_breach(desk, broken)
+}
+
+// Says between which cells a rule is broken, and what was found and needed.
+fn say_breach<D: Desk>(desk: &mut D, broken: &BrokenRule<'_>) -> Result<(), DeskError>
+    ensures { SaysLine (D.seen desk.old) (D.seen desk.new) (line (breach_parts broken.now.p broken.now.q broken.now.found broken.now.needed)) result }
+{
+    say_pieces(
+        desk,
+        &[
             Piece::Word(" at "),
             Piece::Number(&broken.p.x),
             Piece::Word(" "),
@@ -178,16 +190,17 @@ pub fn say_source_rule<D: Desk>(desk: &mut D, broken: &BrokenRule<'_>) -> Result
     )
 }
 
-/// Says `too many: N items`: the layout has that many rectangles and labels. Errors are those of `say_pieces`.
-pub fn say_too_many_items<D: Desk>(desk: &mut D, count: u64) -> Result<(), DeskError>
-    ensures { SaysLine (D.seen desk.old) (D.seen desk.new) (too_many_items_line count) result }
+/// Says `too many: N WHAT`: there are so many of these, more than are taken. Errors are those of `say_pieces`.
+pub fn say_too_many<D: Desk>(desk: &mut D, count: u64, what: &str) -> Result<(), DeskError>
+    ensures { SaysLine (D.seen desk.old) (D.seen desk.new) (too_many_line count what.now) result }
 {
     say_pieces(
         desk,
         &[
             Piece::Word("too many: "),
             Piece::Count(count),
-            Piece::Word(" items"),
+            Piece::Word(" "),
+            Piece::Word(what),
             Piece::Word("\n"),
         ],
     )

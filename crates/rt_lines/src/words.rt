@@ -48,18 +48,18 @@ pub(crate) fn table_word(which: &Which) -> &'static str
     }
 }
 
-// The kind of a rule, before the name of its mask. A rule that no table has yet is never answered, and never said.
+// The kind of a rule, before the names of its masks.
 pub(crate) fn rule_word(rule: &RuleName) -> &'static str
     ensures { result.now ≡ rule_word rule.now }
 {
     match rule {
-        RuleName::Width(_) => "width ",
-        RuleName::Space(_) => "space ",
-        RuleName::Size(_) => "size ",
-        RuleName::Enclose(_) => "enclose ",
-        RuleName::Cap => "cap ",
-        RuleName::Ext => "ext ",
-        RuleName::Cross => "cross ",
-        RuleName::Apart(_) => "apart ",
+        RuleName::Width(_) => "width",
+        RuleName::Space(_) => "space",
+        RuleName::Size(_) => "size",
+        RuleName::Enclose(_) => "enclose",
+        RuleName::Cap => "cap",
+        RuleName::Ext => "ext",
+        RuleName::Cross => "cross",
+        RuleName::Apart(_) => "apart",
     }
 }

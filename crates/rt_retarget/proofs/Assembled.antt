@@ -1,239 +1,185 @@
--- From the parts of a run to the relation of the headline.
-use Rattle.std.proofs.Common.{◌≡◌, ℕ, ◌+◌, ◌<◌, ◌≤◌, ℤ, pos, ◌+ℤ◌, ◌<ℤ◌, ◌≤ℤ◌, List, length, map, inr, ap, ◌∙◌, sym, subst, arith}
-use Rattle.std.proofs.lemmas.Int.{ints}
+-- From the parts of a run to the stages of the files, and to what an answer says of them.
+use Rattle.std.proofs.Common.{◌≡◌, ℕ, ◌≤◌, ℤ, pos, List, [], None, length, map, inr, subst, arith}
 use Rattle.std.proofs.lemmas.List.{length-map}
-use Rattle.rt_cells.specs.Rectangles.{IsNonempty}
-use Rattle.rt_cells.proofs.Times.{times_lt}
+use Rattle.gds_flat.specs.declared.error.FlatError.{FlatError}
+use Rattle.gds_flat.specs.declared.error.FlatError.TheVariants as flat
+use Rattle.gds_flat.specs.Drawn.{AreDrawable}
+use Rattle.gds_flat.specs.Refused.{IsFlattened, FlatRefused}
 use Rattle.gds_stream.specs.declared.library.Library.{Library}
 use Rattle.gds_stream.specs.Contents.{Stream}
 use Rattle.gds_stream_laws.proofs.LawfulValues.{stream_is_lawful}
-use Rattle.rt_rows.specs.declared.row.Var.{Var}
-use Rattle.rt_rows.specs.declared.row.Var.TheVariants.{L, R, B, T}
-use Rattle.rt_rows.specs.declared.name.Name.TheVariants.{Wide, Tall}
-use Rattle.rt_tech.specs.declared.table.Tech.{Tech}
-use Rattle.rt_tech.specs.declared.table.Which.TheVariants.{Source, Target}
-use Rattle.rt_tech.specs.Tech.{mask_count, IsMeasured}
-use Rattle.rt_tech.specs.declared.sizes.Sizes.{Sizes}
-use Rattle.rt_tech.proofs.Measured.{measured}
+use Rattle.rt_base.specs.declared.plane.Cell.{Cell}
+use Rattle.rt_drc.specs.Rows.{cells_of}
+use Rattle.rt_keys.specs.declared.error.TableError.{TableError}
+use Rattle.rt_keys.specs.declared.error.TableError.TheVariants as table
+use Rattle.rt_layout.specs.declared.layout.Label.{Label}
+use Rattle.rt_layout.specs.declared.layout.Layout.{Layout}
+use Rattle.rt_layout.specs.Covering.{MaskCovers}
+use Rattle.rt_nets.specs.declared.shapes.View.{View}
+use Rattle.rt_nets.specs.View.{IsViewOf}
+use Rattle.rt_rules.specs.Rules.{BreaksNoRule, IsFirstBreach}
+use Rattle.rt_rules.proofs.Alike.{breaks_none_alike, first_breach_alike}
+use Rattle.rt_sizes.specs.Refusals.{RefusesSizes}
+use Rattle.rt_sizes.specs.Wishes.{wishes_fault}
+use Rattle.rt_strips.specs.declared.listing.Strip.{Strip}
+use Rattle.rt_strips.specs.Placed.{Placed, placed}
 use Rattle.rt_tables.proofs.Alike.{same_mask_count}
 use Rattle.rt_tables.proofs.Valid.{valid_table}
-use Rattle.rt_template.specs.declared.job.Job.{Job}
-use Rattle.rt_template.specs.declared.job.Strip.{Strip}
-use Rattle.rt_template.specs.Strips.{Placed, placed, mask_of}
-use Rattle.rt_template.specs.Standing.{IsStrip}
-use Rattle.rt_template.specs.Across.{strips_of, width_wanted, MeetsAcross}
-use Rattle.rt_template.specs.Upwards.{MeetsUpwards}
-use Rattle.rt_template.specs.Drawing.{drawn_area}
-use Rattle.rt_template.specs.Rules.{BreaksNoRule, IsFirstBreach}
-use Rattle.rt_template.specs.Across.{extent_limit}
-use Rattle.rt_template.specs.Separate.{AreSeparateStrips, AreOnMasksOf, extent_side_by_side}
-use Rattle.gds_flat.specs.Drawn.{AreDrawable}
-use Rattle.rt_carry.proofs.Valid.{width_positive}
-use Rattle.rt_carry.proofs.Carrying.{drawings_keep}
-use Rattle.rt_rows.proofs.Rows.{beyond_met}
-use Rattle.rt_retarget.specs.declared.layout.TheConstants.{RECTANGLE_LIMIT}
-use Rattle.rt_retarget.specs.Thin.{AreFiles, AreBuilt, ThinInput, IsThinLayout}
-use Rattle.rt_retarget.specs.Layout.{IsSourceLayout, IsWrittenAs, rectangles_in}
-use Rattle.rt_retarget.specs.Moved.{Moved, IsMovedOut, drawing_of}
+use Rattle.rt_tech.specs.declared.rules.RuleName.{RuleName}
+use Rattle.rt_tech.specs.declared.table.Tech.{Tech}
+use Rattle.rt_tech.specs.declared.table.Which.TheVariants.{Source, Target}
+use Rattle.rt_tech.proofs.Measured.{measured}
 use Rattle.rt_retarget.specs.declared.answer.Fault.{Fault}
-use Rattle.rt_retarget.specs.declared.answer.Fault.TheVariants.{TableToml, BadTable, TablesDiffer, SizesToml, BadSizes, NotBuilt, BadStream, Unflattened, SourceRule, OutOfMemory}
-use Rattle.rt_retarget.specs.Answers.{IsDone}
-use Rattle.rt_retarget.specs.Stages.{IsSourceFaultOf, IsStrayFaultOf, IsFaultOfCell}
-use Rattle.rt_retarget.specs.Jobs.{AreMatched, AreThinStrips, IsThinJob, IsJobOfFiles, IsWrittenFor}
-use Rattle.rt_retarget.proofs.Items.{on_mask}
+use Rattle.rt_retarget.specs.declared.answer.Fault.TheVariants.{NotBuilt, SourceRule}
+use Rattle.rt_retarget.specs.declared.inputs.Inputs.{Inputs}
+use Rattle.rt_retarget.specs.declared.source.TheConstants.{STRIP_LIMIT}
+use Rattle.rt_retarget.specs.Files.{Given, AreBuilt}
+use Rattle.rt_retarget.specs.Stages.{AreRead, IsParsed, IsLaid, IsStripped, IsSound, IsThin, HasMore, IsTaken, IsWished}
+use Rattle.rt_retarget.specs.Answers.{IsFaultOf}
+use Rattle.rt_retarget.specs.Jobs.{AreMatched, IsFlatRefusal, IsTableRefusal, IsFaultOfParsed, IsFaultOfTaken, IsFaultOfView, IsSoundView, IsCheckedCell, IsReadSource}
 use Rattle.rt_retarget.proofs.Cells.{IsCellOf, reached_cell, are_drawable}
-use Rattle.rt_retarget.proofs.Flattened.{drawn_layout, drawables}
-
-past : (low by high : ℤ) → pos 1 ≤ℤ by → (low +ℤ by) ≤ℤ high → low <ℤ high
-past low by high h k = omega (arith, ints)
-
-one_at_least : pos 1 ≤ℤ pos 1
-one_at_least = omega (arith, ints)
-
-from_zero : (i : ℕ) → i ≡ 0 + i
-from_zero i = omega arith
-
--- each drawn rectangle has a cell
-drawn_nonempty : (job : Job) (at : Var → ℤ) → IsMeasured job.target → MeetsAcross job at → MeetsUpwards job at at → (i : ℕ) → IsStrip (strips_of job) i
-    → IsNonempty (drawn_area job.target.grid at i)
-drawn_nonempty job at valid across upwards i h = record {
-  across = times_lt job.target.grid (at (L i)) (at (R i)) valid.grid.low
-      (past (at (L i)) (width_wanted job i) (at (R i)) (width_positive job.target valid _) (beyond_met at (L i) (R i) (width_wanted job i) (across.meets (Wide i) h)));
-  upwards = times_lt job.target.grid (at (B i)) (at (T i)) valid.grid.low
-      (past (at (B i)) (pos 1) (at (T i)) one_at_least (beyond_met at (B i) (T i) (pos 1) (upwards.meets (Tall i) h)));
-}
-
--- what is written for a job is its drawing, clean
-moved_out : (job : Job) (library : Library) (cell : List ℕ) (bytes : List ℕ) → IsThinJob job → (written : IsWrittenFor job library.name cell bytes)
-    → IsMovedOut bytes cell library job written.drawn.at
-moved_out job library cell bytes thin w =
-    let at = w.drawn.at in
-    let drawing = w.drawn.drawing in
-    let meets_across = w.drawn.across.meets in
-    let meets_upwards = w.drawn.upwards.meets in
-    let drawable = drawables job.target job.target.grid at 0 (strips_of job)
-    (λ i h. thin.on_masks.masks i (record { below_count = h }))
-    (λ i h. subst (λ (k : ℕ). IsNonempty (drawn_area job.target.grid at k)) (from_zero i) (drawn_nonempty job at thin.target meets_across meets_upwards i (record { below_count = h }))) in
-    record {
-      cell = w.flat;
-      drawing = drawing;
-      bytes = w.exact;
-      moved = w.library;
-      stream = w.stream;
-      library_name = ap (λ (l : Library). l.name) w.one_cell.is_library ∙ drawing.in_library;
-      units = ap (λ (l : Library). l.units) w.one_cell.is_library ∙ drawing.units;
-      flat = subst (λ (name : List ℕ). IsWrittenAs job.target w.library name (drawing_of job at)) drawing.named
-          (drawn_layout job.target w.library w.flat (drawing_of job at) w.one_cell drawing.no_texts drawing.shapes drawable);
-      clean = drawings_keep job at thin.separate thin.source thin.target meets_across meets_upwards;
-    }
-
--- the layout of a thin source
-source_layout : (source target : Tech) (library : Library) (cell : List ℕ) (layout : List Placed) → IsThinLayout library cell source target layout → IsSourceLayout source library cell layout
-source_layout source target library cell layout thin =
-    record { flat = thin.flat; flattened = thin.flattened; no_labels = thin.thin.no_labels; rectangles = thin.rectangles }
-
--- the job of the files and what is written for it make up the relation of the headline
-moved : (source stable ttable sizes out : List ℕ) (library : Library) (asked : Sizes) (job : Job)
-    → IsJobOfFiles source stable ttable sizes library asked job → IsWrittenFor job library.name asked.cell out → Moved source stable ttable sizes out
-moved source stable ttable sizes out library asked job is w =
-    let cell = is.sound.cell in
-    record {
-      asked = asked;
-      library = library;
-      job = job;
-      at = w.drawn.at;
-      from = record {
-        files = is.files;
-        stream = is.sound.stream;
-        layout = cell.layout;
-        drawn = source_layout job.source job.target library asked.cell cell.layout cell.laid_out;
-        sound = cell.sound;
-        strips = cell.are_strips;
-      };
-      across = w.drawn.across;
-      upwards = w.drawn.upwards;
-      to = moved_out job library asked.cell out cell.thin w;
-    }
-
--- each rectangle of a thin layout is on a mask of the source's table
-on_source : (s t : Tech) (library : Library) (cell : List ℕ) (layout : List Placed) → IsThinLayout library cell s t layout → (i : ℕ) → i < length layout
-    → mask_of layout i < mask_count s
-on_source s t library cell layout laid i h =
-    let there : i < length (rectangles_in laid.flat) = subst (λ (z : List Placed). i < length z) laid.rectangles h in
-    let low = on_mask laid.flat i there in
-    let masks = laid.flattened.flat.masks in
-    subst (λ (z : List Placed). mask_of z i < mask_count s) (sym laid.rectangles) (omega (arith, low, masks))
-
--- a thin layout is of rectangles on masks of the source's table
-pub on_masks : (s t : Tech) (library : Library) (cell : List ℕ) (layout : List Placed) → IsThinLayout library cell s t layout → AreOnMasksOf s layout
-on_masks s t library cell layout laid = record { masks = λ i h. on_source s t library cell layout laid i h.below_count }
-
--- and of few
-few_rectangles : (s t : Tech) (library : Library) (cell : List ℕ) (layout : List Placed) → IsThinLayout library cell s t layout → length layout ≤ RECTANGLE_LIMIT
-few_rectangles s t library cell layout laid = subst (λ (z : List Placed). length z ≤ RECTANGLE_LIMIT) (sym laid.rectangles) laid.thin.few
-
--- on masks of one of two tables of as many masks, so on masks of the other
-on_as_many : (s t : Tech) (layout : List Placed) → mask_count s ≡ mask_count t → AreOnMasksOf s layout → AreOnMasksOf t layout
-on_as_many s t layout same on = record { masks = λ i h. subst (λ (n : ℕ). mask_of layout i < n) same (on.masks i h) }
-
--- the strips of a thin layout
-pub thin_strips : (s t : Tech) (library : Library) (cell : List ℕ) (rectangles strips : List Strip) → AreMatched s t → IsThinLayout library cell s t (map placed rectangles)
-    → AreSeparateStrips (map placed strips) → length strips ≡ length rectangles
-    → ((tech : Tech) → extent_side_by_side tech (map placed strips) ≡ extent_side_by_side tech (map placed rectangles))
-    → ((tech : Tech) → AreOnMasksOf tech (map placed rectangles) → AreOnMasksOf tech (map placed strips)) → AreThinStrips s t (map placed strips)
-thin_strips s t library cell rectangles strips tables laid apart count extent masks = record {
-  separate = apart;
-  few = subst (λ (n : ℕ). n ≤ RECTANGLE_LIMIT) (sym (length-map strips placed ∙ count ∙ sym (length-map rectangles placed))) (few_rectangles s t library cell (map placed rectangles) laid);
-  on_masks = masks t (on_as_many s t (map placed rectangles) tables.same_masks (on_masks s t library cell (map placed rectangles) laid));
-  source = tables.source;
-  target = tables.target;
-  side_by_side = subst (λ (n : ℤ). n ≤ℤ extent_limit) (sym (extent t))
-      (subst (λ (z : List Placed). extent_side_by_side t z ≤ℤ extent_limit) (sym laid.rectangles) laid.thin.thin.side_by_side);
-}
+use Rattle.rt_retarget.proofs.Stripped.{covered_alike}
 
 -- the tables of files are matched
-pub matched : (stable ttable sizes : List ℕ) (s t : Tech) (asked : Sizes) → AreFiles stable ttable sizes s t asked → AreMatched s t
-matched stable ttable sizes s t asked files = record {
-  source = measured s (valid_table Source stable s files.tables.source_read);
-  target = measured t (valid_table Target ttable t files.tables.target_read);
-  same_masks = same_mask_count s t files.tables.same_form;
-}
+pub matched : (files : Given) (inputs : Inputs) → AreRead files inputs → AreMatched inputs.tables.source inputs.tables.target
+matched files inputs read =
+    let tables = read.files_are.tables in
+    record {
+      source = measured inputs.tables.source (valid_table Source files.stable inputs.tables.source tables.source_read);
+      target = measured inputs.tables.target (valid_table Target files.ttable inputs.tables.target tables.target_read);
+      same_masks = same_mask_count inputs.tables.source inputs.tables.target tables.same_form;
+    }
 
 -- what a stream holds can be drawn
 pub stream_is_drawable : (source : List ℕ) (library : Library) → Stream source library → AreDrawable library.structures
 stream_is_drawable source library stream = are_drawable library.structures (stream_is_lawful source library stream).structures
 
--- a thin layout whose files are read is thin input
-abbrev thin_of : (source stable ttable sizes : List ℕ) (library : Library) (asked : Sizes) (s t : Tech) (layout : List Placed)
-    → AreBuilt s asked → Stream source library → AreFiles stable ttable sizes s t asked → IsThinLayout library asked.cell s t layout → ThinInput source stable ttable sizes
-thin_of source stable ttable sizes library asked s t layout built stream files laid =
-    record { source_table = s; target_table = t; asked = asked; library = library; layout = layout; files = files; built = built; stream = stream; laid_out = laid }
+-- a refusal of the flattening is one of the files
+pub flat_fault : (inputs : Inputs) (library : Library) (error : FlatError) (fault : Fault)
+    → FlatRefused library.structures inputs.asked.cell inputs.tables.source error → IsFlatRefusal error fault → IsFaultOfParsed inputs library fault
+flat_fault inputs library (flat.Unsupported offset odd) fault refused e files parsed = rw e (record { inputs = inputs; library = library; parsed = parsed; refused = refused })
+flat_fault inputs library (flat.NoSuchStructure name) fault refused e files parsed = rw e (record { inputs = inputs; library = library; parsed = parsed; refused = refused })
+flat_fault inputs library (flat.Cyclic names) fault refused e files parsed = rw e (record { inputs = inputs; library = library; parsed = parsed; refused = refused })
+flat_fault inputs library (flat.UnmappedLayer layer number) fault refused e files parsed = rw e (record { inputs = inputs; library = library; parsed = parsed; refused = refused })
+flat_fault inputs library (flat.ArrayStep offset) fault refused e files parsed = rw e (record { inputs = inputs; library = library; parsed = parsed; refused = refused })
+flat_fault inputs library (flat.CoordinateRange offset) fault refused e files parsed = rw e (record { inputs = inputs; library = library; parsed = parsed; refused = refused })
+flat_fault inputs library (flat.TooMany count) fault refused e files parsed = rw e (record { inputs = inputs; library = library; parsed = parsed; refused = refused })
+flat_fault inputs library flat.TooDeep fault refused e files parsed = rw e (record { inputs = inputs; library = library; parsed = parsed; refused = refused })
+flat_fault inputs library flat.OutOfMemory fault refused e files parsed = rw e tt
 
--- a refusal of a thin layout's rules is a refusal of the files
-pub fault_of_rules : (library : Library) (s t : Tech) (asked : Sizes) (rectangles seen : List Strip) → IsThinLayout library asked.cell s t (map placed rectangles)
-    → seen ≡ rectangles → (fault : Fault) → IsSourceFaultOf s (map placed seen) fault → IsFaultOfCell library s t asked fault
-fault_of_rules library s t asked rectangles seen laid same (SourceRule rule mask p q found needed) h source built stream stable ttable sizes files = record {
-  thin = thin_of source stable ttable sizes library asked s t (map placed rectangles) built stream files laid;
-  broken = subst (λ (strips : List Strip). IsFirstBreach s (map placed strips) rule p q found needed) same h.0;
-  named = h.1;
+-- a refusal of stray sizes is one of the files
+pub stray_fault : (inputs : Inputs) (error : TableError) (fault : Fault) → RefusesSizes (wishes_fault inputs.asked []) error → IsTableRefusal Target error fault
+    → IsFaultOfTaken inputs fault
+stray_fault inputs (table.BadSizes key cause) fault refused e files library layout strips taken =
+    rw e (inr (record { inputs = inputs; library = library; layout = layout; strips = strips; taken = taken; refused = refused }))
+stray_fault inputs table.OutOfMemory fault refused e files library layout strips taken = rw e tt
+stray_fault inputs table.BadToml fault refused e files library layout strips taken = absurd refused
+stray_fault inputs (table.BadTable key cause) fault refused e files library layout strips taken = absurd refused
+stray_fault inputs (table.TablesDiffer key) fault refused e files library layout strips taken = absurd refused
+
+module _ (inputs : Inputs) (layout : Layout) (view : View) (is : IsViewOf layout inputs.tables.source view) where
+  -- a view that breaks no rule is of a layout that breaks none
+  pub clean_layout : BreaksNoRule (pos 1) inputs.tables.source (cells_of view.strips.list) → BreaksNoRule (pos 1) inputs.tables.source (MaskCovers layout)
+  clean_layout none =
+      breaks_none_alike (pos 1) inputs.tables.source (cells_of view.strips.list) (MaskCovers layout)
+      (covered_alike layout inputs.tables.source (map placed view.strips.list) is.strips.strips_are) none
+
+  -- the first rule that it breaks is the first that the layout breaks
+  pub broken_layout : (rule : RuleName) (p q : Cell) (found needed : ℤ)
+      → IsFirstBreach (pos 1) inputs.tables.source (cells_of view.strips.list) rule p q found needed
+      → IsFirstBreach (pos 1) inputs.tables.source (MaskCovers layout) rule p q found needed
+  broken_layout rule p q found needed first =
+      first_breach_alike (pos 1) inputs.tables.source (cells_of view.strips.list) (MaskCovers layout)
+      (covered_alike layout inputs.tables.source (map placed view.strips.list) is.strips.strips_are) rule p q found needed first
+
+-- a rule that the view breaks is a refusal of the files
+pub rule_fault : (inputs : Inputs) (view : View) (rule : RuleName) (p q : Cell) (found needed : ℤ)
+    → IsFirstBreach (pos 1) inputs.tables.source (cells_of view.strips.list) rule p q found needed
+    → IsFaultOfView inputs view (SourceRule rule p q found needed)
+rule_fault inputs view rule p q found needed first files library layout is stripped = record {
+  inputs = inputs;
+  library = library;
+  layout = layout;
+  strips = map placed view.strips.list;
+  stripped = stripped;
+  broken = broken_layout inputs layout view is rule p q found needed first;
 }
-fault_of_rules library s t asked rectangles seen laid same OutOfMemory h source built stream stable ttable sizes files = tt
-fault_of_rules library s t asked rectangles seen laid same (TableToml which) h source built stream stable ttable sizes files = absurd h
-fault_of_rules library s t asked rectangles seen laid same (BadTable which key cause) h source built stream stable ttable sizes files = absurd h
-fault_of_rules library s t asked rectangles seen laid same (TablesDiffer key) h source built stream stable ttable sizes files = absurd h
-fault_of_rules library s t asked rectangles seen laid same SizesToml h source built stream stable ttable sizes files = absurd h
-fault_of_rules library s t asked rectangles seen laid same (BadSizes key cause) h source built stream stable ttable sizes files = absurd h
-fault_of_rules library s t asked rectangles seen laid same NotBuilt h source built stream stable ttable sizes files = absurd h
-fault_of_rules library s t asked rectangles seen laid same (BadStream offset cause) h source built stream stable ttable sizes files = absurd h
-fault_of_rules library s t asked rectangles seen laid same (Unflattened error) h source built stream stable ttable sizes files = absurd h
 
--- a refusal of stray sizes is a refusal of the files, where the layout breaks no rule
-pub fault_of_strays : (library : Library) (s t : Tech) (asked : Sizes) (rectangles seen : List Strip) → IsThinLayout library asked.cell s t (map placed rectangles)
-    → seen ≡ rectangles → BreaksNoRule s (map placed seen) → (fault : Fault) → IsStrayFaultOf asked fault → IsFaultOfCell library s t asked fault
-fault_of_strays library s t asked rectangles seen laid same kept (BadSizes key cause) h source built stream stable ttable sizes files = inr (record {
-  thin = thin_of source stable ttable sizes library asked s t (map placed rectangles) built stream files laid;
-  sound = subst (λ (strips : List Strip). BreaksNoRule s (map placed strips)) same kept;
-  refused = h;
+few_placed : (strips : List Strip) → length strips ≤ STRIP_LIMIT → length (map placed strips) ≤ STRIP_LIMIT
+few_placed strips few = omega (arith, few, length-map strips placed)
+
+-- the strips of a view that is one of the layout, and few
+pub stripped : (files : Given) (inputs : Inputs) (library : Library) (layout : Layout) (view : View) → IsLaid files inputs library layout
+    → IsViewOf layout inputs.tables.source view → length view.strips.list ≤ STRIP_LIMIT → IsStripped files inputs library layout (map placed view.strips.list)
+stripped files inputs library layout view laid is few =
+    record { laid = laid; are_strips = is.strips.strips_are; few = few_placed view.strips.list few }
+
+-- a sound layout
+pub sound : (files : Given) (inputs : Inputs) (library : Library) (layout : Layout) (view : View) → IsLaid files inputs library layout
+    → IsSoundView inputs layout view → IsSound files inputs library layout (map placed view.strips.list)
+sound files inputs library layout view laid is =
+    record { stripped = stripped files inputs library layout view laid is.is_view is.few; clean = is.clean }
+
+-- what isn't moved yet is a refusal of the files
+pub more_fault : (inputs : Inputs) (library : Library) (layout : Layout) (view : View)
+    → IsFlattened library.structures inputs.asked.cell inputs.tables.source layout → IsSoundView inputs layout view
+    → HasMore inputs.tables.target view.labels (map placed view.strips.list) → IsFaultOfParsed inputs library NotBuilt
+more_fault inputs library layout view flattened is more files parsed = inr (record {
+  inputs = inputs;
+  library = library;
+  layout = layout;
+  strips = map placed view.strips.list;
+  sound = sound files inputs library layout view (record { parsed = parsed; flattened = flattened }) is;
+  more = subst (λ (labels : List Label). HasMore inputs.tables.target labels (map placed view.strips.list)) is.is_view.labels more;
 })
-fault_of_strays library s t asked rectangles seen laid same kept OutOfMemory h source built stream stable ttable sizes files = tt
-fault_of_strays library s t asked rectangles seen laid same kept (TableToml which) h source built stream stable ttable sizes files = absurd h
-fault_of_strays library s t asked rectangles seen laid same kept (BadTable which key cause) h source built stream stable ttable sizes files = absurd h
-fault_of_strays library s t asked rectangles seen laid same kept (TablesDiffer key) h source built stream stable ttable sizes files = absurd h
-fault_of_strays library s t asked rectangles seen laid same kept SizesToml h source built stream stable ttable sizes files = absurd h
-fault_of_strays library s t asked rectangles seen laid same kept NotBuilt h source built stream stable ttable sizes files = absurd h
-fault_of_strays library s t asked rectangles seen laid same kept (BadStream offset cause) h source built stream stable ttable sizes files = absurd h
-fault_of_strays library s t asked rectangles seen laid same kept (Unflattened error) h source built stream stable ttable sizes files = absurd h
-fault_of_strays library s t asked rectangles seen laid same kept (SourceRule rule mask p q found needed) h source built stream stable ttable sizes files = absurd h
 
--- a run that ends well
-pub done : (source stable ttable sizes out bytes : List ℕ) (library : Library) (asked : Sizes) (job : Job)
-    → IsJobOfFiles source stable ttable sizes library asked job → IsWrittenFor job library.name asked.cell bytes → out ≡ bytes → IsDone source stable ttable sizes out
-done source stable ttable sizes out bytes library asked job is w same =
-    let cell = is.sound.cell in
-    record {
-      thin = thin_of source stable ttable sizes library asked job.source job.target cell.layout is.sound.built is.sound.stream is.files cell.laid_out;
-      sound = cell.sound;
-      no_strays = cell.no_strays;
-      moved = subst (Moved source stable ttable sizes) (sym same) (moved source stable ttable sizes bytes library asked job is w);
-    }
+-- what is moved is taken
+pub taken : (files : Given) (inputs : Inputs) (library : Library) (layout : Layout) (view : View) → IsParsed files inputs library
+    → IsFlattened library.structures inputs.asked.cell inputs.tables.source layout → IsSoundView inputs layout view
+    → IsThin inputs.tables.target view.labels (map placed view.strips.list) → IsTaken files inputs library layout (map placed view.strips.list)
+taken files inputs library layout view parsed flattened is thin = record {
+  sound = sound files inputs library layout view (record { parsed = parsed; flattened = flattened }) is;
+  thin = subst (λ (labels : List Label). IsThin inputs.tables.target labels (map placed view.strips.list)) is.is_view.labels thin;
+}
+
+-- the cell that is checked
+pub checked : (inputs : Inputs) (library : Library) (layout : Layout) (view : View)
+    → IsFlattened library.structures inputs.asked.cell inputs.tables.source layout → IsSoundView inputs layout view
+    → IsThin inputs.tables.target view.labels (map placed view.strips.list) → wishes_fault inputs.asked [] ≡ None → IsCheckedCell inputs library view.strips.list
+checked inputs library layout view flattened is thin none = record {
+  layout = layout;
+  flattened = flattened;
+  are_strips = is.is_view.strips.strips_are;
+  few = is.few;
+  clean = is.clean;
+  thin = subst (λ (labels : List Label). IsThin inputs.tables.target labels (map placed view.strips.list)) is.is_view.labels thin;
+  no_strays = none;
+}
+
+-- a source that is read, of files that are read, has passed all stages
+pub wished : (files : Given) (inputs : Inputs) (library : Library) (strips : List Strip) → AreRead files inputs → (is : IsReadSource files.source inputs library strips)
+    → IsWished files inputs library is.cell.layout (map placed strips)
+wished files inputs library strips read is = record {
+  taken = record {
+    sound = record {
+      stripped = record {
+        laid = record { parsed = record { read = read; built = is.built; stream = is.stream }; flattened = is.cell.flattened };
+        are_strips = is.cell.are_strips;
+        few = few_placed strips is.cell.few;
+      };
+      clean = is.cell.clean;
+    };
+    thin = is.cell.thin;
+  };
+  no_strays = is.cell.no_strays;
+}
 
 -- the library's name fits a record
 pub library_short : (source : List ℕ) (library : Library) → Stream source library → length library.name ≤ 65530
 library_short source library stream = (stream_is_lawful source library stream).short
 
--- the cell that is flattened is one of the library's
-cell_of : (source : List ℕ) (library : Library) (cell : List ℕ) (s t : Tech) (layout : List Placed) → Stream source library
-    → IsThinLayout library cell s t layout → IsCellOf cell
-cell_of source library cell s t layout stream thin =
-    let sound = thin.flattened.accepted.sound in
-    reached_cell library.structures cell sound.order (stream_is_lawful source library stream).structures sound.reached
-
--- and so does the cell's
-pub cell_short : (source : List ℕ) (library : Library) (cell : List ℕ) (s t : Tech) (layout : List Placed) → Stream source library
-    → IsThinLayout library cell s t layout → length cell ≤ 65530
-cell_short source library cell s t layout stream thin = (cell_of source library cell s t layout stream thin).short
-
--- and it isn't empty
-pub cell_named : (source : List ℕ) (library : Library) (cell : List ℕ) (s t : Tech) (layout : List Placed) → Stream source library
-    → IsThinLayout library cell s t layout → 0 < length cell
-cell_named source library cell s t layout stream thin = (cell_of source library cell s t layout stream thin).named
+-- the cell that is flattened is one of the library's: its name isn't empty and fits a record
+pub cell_of : (source : List ℕ) (inputs : Inputs) (library : Library) (strips : List Strip) → IsReadSource source inputs library strips → IsCellOf inputs.asked.cell
+cell_of source inputs library strips is =
+    let sound = is.cell.flattened.accepted.sound in
+    reached_cell library.structures inputs.asked.cell sound.order (stream_is_lawful source library is.stream).structures sound.reached

@@ -1,120 +1,238 @@
--- Files are read in one way, so the answers exclude each other.
-use Rattle.std.proofs.Common.{◌≡◌, ℕ, ◌≤◌, ℤ, List, [], length, None, subst, ap, sym, ◌∙◌, inl, inr}
-use Rattle.rt_layout.specs.declared.layout.Layout.{Layout as FlatLayout}
-use Rattle.gds_flat.specs.Refused.{IsFlattened}
+-- Files are read in one way, so what is refused at a stage isn't at the next one.
+use Rattle.std.proofs.Common.{◌≡◌, ◌≢◌, ℕ, suc, ◌<◌, ◌≤◌, ℤ, pos, ◌↔◌, List, [], length, map, None, refl, subst, ap, sym, ◌∙◌, inl, inr, arith}
+use Rattle.std.proofs.lemmas.Int.{ints}
+use Rattle.rt_base.specs.Plane.{area}
+use Rattle.rt_base.specs.declared.plane.Cell.{Cell}
+use Rattle.rt_cells.specs.Rectangles.{Rectangle, Covers}
+use Rattle.rt_layout.specs.declared.layout.Label.{Label}
+use Rattle.rt_layout.specs.declared.layout.Layout.{Layout}
+use Rattle.rt_layout.specs.Covering.{MaskCovers, rectangles_of}
+use Rattle.gds_flat.specs.declared.error.FlatError.{FlatError}
+use Rattle.gds_flat.specs.declared.error.FlatError.TheVariants as flat
 use Rattle.gds_flat.specs.Laws.{AreAlike}
 use Rattle.gds_flat.proofs.Flattening.{one_flat}
 use Rattle.gds_flat_laws.proofs.Refusals.{not_refused as flattened_not_refused}
 use Rattle.gds_stream.specs.declared.library.Library.{Library}
 use Rattle.gds_stream.proofs.Telling.{one_library, nowhere}
-use Rattle.rt_base.specs.declared.plane.Cell.{Cell}
+use Rattle.rt_keys.specs.declared.error.TableError.TheVariants as table
+use Rattle.rt_rules.specs.Rules.{BreaksNoRule}
+use Rattle.rt_rules.proofs.Alike.{AreAlike as AreAlikeCells, breaks_none_alike}
+use Rattle.rt_rules.proofs.First.{first_breaks}
+use Rattle.rt_sizes.specs.Refusals.{RefusesSizes}
+use Rattle.rt_sizes.specs.SizesFile.{sizes_fault}
+use Rattle.rt_sizes.specs.Wishes.{wishes_fault}
+use Rattle.rt_strips.specs.Channels.{IsChannelCell, IsPiece, IsInChannel, IsStripCell, AreLayoutStrips}
+use Rattle.rt_strips.specs.Placed.{Placed}
+use Rattle.rt_strips.proofs.OneList.{strips_are_one_list}
+use Rattle.rt_tables.proofs.Valid.{same_table, not_both}
 use Rattle.rt_tech.specs.declared.rules.RuleName.{RuleName}
 use Rattle.rt_tech.specs.declared.table.TableCause.{TableCause}
 use Rattle.rt_tech.specs.declared.table.Tech.{Tech}
-use Rattle.rt_keys.specs.declared.error.TableError.TheVariants.{BadSizes}
+use Rattle.rt_tech.specs.declared.table.Which.TheVariants.{Source, Target}
 use Rattle.rt_tech.specs.declared.sizes.Sizes.{Sizes}
-use Rattle.rt_sizes.specs.Refusals.{RefusesSizes}
-use Rattle.rt_sizes.specs.Wishes.{wishes_fault}
-use Rattle.rt_template.specs.Strips.{Placed}
-use Rattle.rt_template.specs.Rules.{BreaksNoRule}
-use Rattle.rt_drc.proofs.Kept.{first_breach_breaks_rule}
-use Rattle.rt_retarget.specs.declared.layout.TheConstants.{RECTANGLE_LIMIT}
-use Rattle.rt_retarget.specs.Layout.{rectangles_in}
-use Rattle.rt_retarget.specs.Thin.{AreBuilt, AreThin, IsThin, ThinInput}
-use Rattle.rt_retarget.specs.Answers.{IsUnsound}
-use Rattle.rt_retarget.specs.Exclusion.{DoneIsSound, StrayIsSound, StrayIsNotDone, NotBuiltIsNotThin, NoStreamIsAlone, UnflattenedIsAlone}
+use Rattle.rt_tech.specs.Tech.{mask_count}
+use Rattle.rt_retarget.specs.declared.inputs.Inputs.{Inputs}
+use Rattle.rt_retarget.specs.Files.{Given, AreBuilt}
+use Rattle.rt_retarget.specs.Stages.{AreRead, IsParsed, IsLaid, IsStripped, IsSound, IsThin, HasMore, IsTaken}
+use Rattle.rt_retarget.specs.Ladder.{NoTableIsntRead, BadTableIsntRead, TwoFormsArentRead, NoSizesArentRead, BadSizesArentRead, MoreIsntParsed, NoStreamIsntParsed, UnflattenedIsntLaid, TooManyIsntStripped, UnsoundIsntSound, MoreIsntTaken, StraysArentWished}
 use Rattle.rt_retarget.proofs.Readings.{one_reading}
-use Rattle.rt_retarget.proofs.Items.{same_rectangles}
 
--- flattened, of the same library, cell and table
-flattened_too : (library l : Library) (cell c : List ℕ) (s s' : Tech) (flat : FlatLayout) → l ≡ library → c ≡ cell → s' ≡ s
-    → IsFlattened l.structures c s' flat → IsFlattened library.structures cell s flat
-flattened_too library l cell c s s' flat e f g is =
-    subst (λ (z : Library). IsFlattened z.structures cell s flat) e
-    (subst (λ (z : List ℕ). IsFlattened l.structures z s flat) f
-    (subst (λ (z : Tech). IsFlattened l.structures c z flat) g is))
+-- no table
 
--- the same is built of the same
-same_built : (s s' : Tech) (asked asked' : Sizes) → s ≡ s' → asked ≡ asked' → AreBuilt s asked → AreBuilt s' asked'
-same_built s s' asked asked' e f built = subst (λ (z : Tech). AreBuilt z asked') e (subst (λ (z : Sizes). AreBuilt s z) f built)
+pub no_table_read : NoTableIsntRead
+no_table_read files inputs Source none read =
+    let t = read.files_are.tables.source_read in
+    none t.members t.document
+no_table_read files inputs Target none read =
+    let t = read.files_are.tables.target_read in
+    none.1 t.members t.document
 
--- the layout is one
-one_thin_layout : (source stable ttable sizes : List ℕ) (a b : ThinInput source stable ttable sizes) → a.layout ≡ b.layout
-one_thin_layout source stable ttable sizes a b =
-    let same = one_reading stable ttable sizes b.source_table b.target_table b.asked a.source_table a.target_table a.asked b.files a.files in
-    let library = one_library source b.library a.library b.stream a.stream in
-    let flat = flattened_too a.library b.library a.asked.cell b.asked.cell a.source_table b.source_table b.laid_out.flat library
-    (ap (λ (z : Sizes). z.cell) same.sizes) same.source b.laid_out.flattened in
-    let alike = one_flat a.library.structures a.asked.cell a.source_table a.laid_out.flat b.laid_out.flat a.laid_out.flattened flat in
-    a.laid_out.rectangles ∙ same_rectangles a.laid_out.flat b.laid_out.flat alike.masks alike.rectangles ∙ sym b.laid_out.rectangles
+pub bad_table_read : BadTableIsntRead
+bad_table_read files inputs Source key cause bad read =
+    not_both Source files.stable inputs.tables.source (table.BadTable key cause) read.files_are.tables.source_read bad
+bad_table_read files inputs Target key cause bad read =
+    not_both Target files.ttable inputs.tables.target (table.BadTable key cause) read.files_are.tables.target_read bad.1
 
--- a layout that is alike to a thin one is thin
-thin_too : (s s' : Tech) (f g : FlatLayout) → s ≡ s' → AreAlike f g → IsThin s f → IsThin s' g
-thin_too s s' f g e alike thin =
-    let rectangles = same_rectangles f g alike.masks alike.rectangles in
-    record {
-      no_labels = sym alike.labels ∙ thin.no_labels;
-      few = subst (λ (z : List Placed). length z ≤ RECTANGLE_LIMIT) rectangles thin.few;
-      thin = subst (λ (z : Tech). AreThin z (rectangles_in g)) e (subst (AreThin s) rectangles thin.thin);
-    }
+pub two_forms_read : TwoFormsArentRead
+two_forms_read files inputs key two read =
+    let tables = read.files_are.tables in
+    let s = same_table Source files.stable two.source_table inputs.tables.source two.source_read tables.source_read in
+    let t = same_table Target files.ttable two.target_table inputs.tables.target two.target_read tables.target_read in
+    two.parted.apart (rw (s, t) tables.same_form)
 
--- files that break no rule aren't refused for one
-sound_not_unsound : (source stable ttable sizes : List ℕ) (rule : RuleName) (mask : List ℕ) (p q : Cell) (found needed : ℤ) (thin : ThinInput source stable ttable sizes)
-    → BreaksNoRule thin.source_table thin.layout → IsUnsound source stable ttable sizes rule mask p q found needed → ⊥
-sound_not_unsound source stable ttable sizes rule mask p q found needed thin sound unsound =
-    let same = one_reading stable ttable sizes _ _ _ _ _ _ thin.files unsound.thin.files in
-    let layouts = one_thin_layout source stable ttable sizes thin unsound.thin in
-    first_breach_breaks_rule unsound.thin.source_table unsound.thin.layout rule p q found needed unsound.broken
-    (subst (λ (z : List Placed). BreaksNoRule unsound.thin.source_table z) layouts
-    (subst (λ (z : Tech). BreaksNoRule z thin.layout) same.source sound))
+pub no_sizes_read : NoSizesArentRead
+no_sizes_read files inputs none read =
+    let sizes = read.files_are.sizes_read in
+    none.no_document sizes.file sizes.document
 
-pub done_not_unsound : DoneIsSound
-done_not_unsound source stable ttable sizes out rule mask p q found needed done unsound =
-    sound_not_unsound source stable ttable sizes rule mask p q found needed done.thin done.sound unsound
+pub bad_sizes_read : BadSizesArentRead
+bad_sizes_read files inputs key cause bad read =
+    let tables = read.files_are.tables in
+    let t = same_table Target files.ttable bad.target_table inputs.tables.target bad.tables.target_read tables.target_read in
+    let sizes = read.files_are.sizes_read in
+    let file : bad.faulty.file ≡ sizes.file = cc (bad.faulty.document.reads, sizes.document.reads) in
+    let none : sizes_fault bad.target_table bad.faulty.file ≡ None = rw (t, file) sizes.faultless in
+    let refused = rw none at bad.faulty.refused in
+    absurd cc
 
-pub stray_not_unsound : StrayIsSound
-stray_not_unsound source stable ttable sizes key cause rule mask p q found needed stray unsound =
-    sound_not_unsound source stable ttable sizes rule mask p q found needed stray.thin stray.sound unsound
+-- one reading
+
+same_inputs : (a b : Inputs) → a.tables.source ≡ b.tables.source → a.tables.target ≡ b.tables.target → a.asked ≡ b.asked → a ≡ b
+same_inputs a b e f g =
+    subst (λ (s : Tech). a ≡ record { tables = record { source = s; target = b.tables.target }; asked = b.asked }) e
+    (subst (λ (t : Tech). a ≡ record { tables = record { source = a.tables.source; target = t }; asked = b.asked }) f
+    (subst (λ (asked : Sizes). a ≡ record { tables = record { source = a.tables.source; target = a.tables.target }; asked = asked }) g refl))
+
+one_read : (files : Given) (a b : Inputs) → AreRead files a → AreRead files b → a ≡ b
+one_read files a b x y =
+    let same = one_reading files.stable files.ttable files.sizes a.tables.source a.tables.target a.asked b.tables.source b.tables.target b.asked x.files_are y.files_are in
+    same_inputs a b same.source same.target same.sizes
+
+module _ (files : Given) (inputs : Inputs) (library : Library) (parsed : IsParsed files inputs library) where
+  same_read : (other : Inputs) → AreRead files other → other ≡ inputs
+  same_read other read = one_read files other inputs read parsed.read
+
+  same_library : (l : Library) → IsParsed files inputs l → l ≡ library
+  same_library l other = one_library files.source l library other.stream parsed.stream
+
+  same_laid : (other : Inputs) (l : Library) (f : Layout) → IsLaid files other l f → IsLaid files inputs library f
+  same_laid other l f laid =
+      let e = same_read other laid.parsed.read in
+      let here : IsLaid files inputs l f = subst (λ (i : Inputs). IsLaid files i l f) e laid in
+      subst (λ (z : Library). IsLaid files inputs z f) (same_library l here.parsed) here
+
+  same_stripped : (other : Inputs) (l : Library) (f : Layout) (t : List Placed) → IsStripped files other l f t → IsStripped files inputs library f t
+  same_stripped other l f t is =
+      let e = same_read other is.laid.parsed.read in
+      let here : IsStripped files inputs l f t = subst (λ (i : Inputs). IsStripped files i l f t) e is in
+      subst (λ (z : Library). IsStripped files inputs z f t) (same_library l here.laid.parsed) here
+
+pub more_parsed : MoreIsntParsed
+more_parsed files inputs library more parsed =
+    let e = same_read files inputs library parsed more.inputs more.read in
+    more.more (subst (λ (i : Inputs). AreBuilt i.tables.source i.asked) (sym e) parsed.built)
+
+pub no_stream_parsed : NoStreamIsntParsed
+no_stream_parsed files inputs library offset cause is parsed = nowhere files.source library offset cause parsed.stream is.stops
+
+pub unflattened_laid : UnflattenedIsntLaid
+unflattened_laid files inputs library layout error no_want is laid =
+    let e = same_read files inputs library laid.parsed is.inputs is.parsed.read in
+    let here : IsParsed files inputs is.library = subst (λ (i : Inputs). IsParsed files i is.library) e is.parsed in
+    let l = same_library files inputs library laid.parsed is.library here in
+    flattened_not_refused library.structures inputs.asked.cell inputs.tables.source layout error laid.flattened (rw (l, e) at is.refused) no_want
+
+-- one layout: what masks cover in one of two alike layouts, they cover in the other
+
+covers_too : (f g : Layout) → AreAlike f g → (m : ℕ) (x y : ℤ) → MaskCovers f m x y → MaskCovers g m x y
+covers_too f g alike m x y c = subst (λ (r : List Rectangle). Covers r x y) (alike.rectangles m) c
+
+back : (f g : Layout) → AreAlike f g → AreAlike g f
+back f g alike = record { labels = sym alike.labels; masks = sym alike.masks; rectangles = λ m. sym (alike.rectangles m) }
+
+channel_cell_too : (f g : Layout) → AreAlike f g → (tech : Tech) (x y : ℤ) → IsChannelCell f tech x y → IsChannelCell g tech x y
+channel_cell_too f g alike tech x y c = record {
+  gate = c.gate;
+  active = c.active;
+  is_gate = c.is_gate;
+  is_active = c.is_active;
+  in_gate = covers_too f g alike c.gate x y c.in_gate;
+  in_active = covers_too f g alike c.active x y c.in_active;
+}
+
+strip_cell_too : (f g : Layout) → AreAlike f g → (tech : Tech) (m : ℕ) (x y : ℤ) → IsStripCell f tech m x y → IsStripCell g tech m x y
+strip_cell_too f g alike tech m x y c = record {
+  of_mask_or_channel = elim c.of_mask_or_channel [
+    | inl of_mask ↦ inl (of_mask.0, covers_too f g alike m x y of_mask.1)
+    | inr channel ↦ inr (
+      channel.0,
+      record {
+        channel = channel.1.channel;
+        piece = record {
+          nonempty = channel.1.piece.nonempty;
+          inside = λ u v h. channel_cell_too f g alike tech u v (channel.1.piece.inside u v h);
+          alone = λ u v p q h side d. channel.1.piece.alone u v p q h side (channel_cell_too g f (back f g alike) tech p q d);
+        };
+        holds = channel.1.holds;
+      },
+    )
+  ];
+}
+
+strips_too : (f g : Layout) → AreAlike f g → (tech : Tech) (strips : List Placed) → AreLayoutStrips f tech strips → AreLayoutStrips g tech strips
+strips_too f g alike tech strips are = record {
+  on_masks = are.on_masks;
+  nonempty = are.nonempty;
+  same_cells = λ m x y h. (
+    λ c. (are.same_cells m x y h).0 (strip_cell_too g f (back f g alike) tech m x y c),
+    λ c. strip_cell_too f g alike tech m x y ((are.same_cells m x y h).1 c),
+  );
+  once = are.once;
+  whole_runs = are.whole_runs;
+  unstacked = are.unstacked;
+  in_order = are.in_order;
+}
+
+same_layout : (files : Given) (inputs : Inputs) (library : Library) (f g : Layout) → IsLaid files inputs library f → IsLaid files inputs library g → AreAlike f g
+same_layout files inputs library f g a b = one_flat library.structures inputs.asked.cell inputs.tables.source f g a.flattened b.flattened
+
+-- one list of strips
+same_strips : (files : Given) (inputs : Inputs) (library : Library) (f g : Layout) (s t : List Placed) → IsLaid files inputs library f → IsLaid files inputs library g
+    → AreLayoutStrips f inputs.tables.source s → AreLayoutStrips g inputs.tables.source t → s ≡ t
+same_strips files inputs library f g s t a b of_f of_g =
+    strips_are_one_list (IsStripCell g inputs.tables.source) (suc (mask_count inputs.tables.source)) s t (strips_too f g (same_layout files inputs library f g a b) inputs.tables.source s of_f) of_g
+
+pub too_many_stripped : TooManyIsntStripped
+too_many_stripped files inputs library layout strips count is stripped =
+    let parsed = stripped.laid.parsed in
+    let laid = same_laid files inputs library parsed is.inputs is.library is.layout is.laid in
+    let e = same_read files inputs library parsed is.inputs is.laid.parsed.read in
+    let are : AreLayoutStrips is.layout inputs.tables.source is.many.strips =
+    subst (λ (i : Inputs). AreLayoutStrips is.layout i.tables.source is.many.strips) e is.many.strips_are in
+    let same = same_strips files inputs library is.layout layout is.many.strips strips laid stripped.laid are stripped.are_strips in
+    let many = is.many.beyond in
+    let few = stripped.few in
+    let count : length is.many.strips ≡ length strips = ap length same in
+    omega (arith, many, few, count)
+
+alike_cells : (f g : Layout) → AreAlike f g → (m : ℕ) → AreAlikeCells (MaskCovers f m) (MaskCovers g m)
+alike_cells f g alike m = record { to = covers_too f g alike m; from = covers_too g f (back f g alike) m }
+
+pub unsound_sound : UnsoundIsntSound
+unsound_sound files inputs library layout strips rule p q found needed is sound =
+    let parsed = sound.stripped.laid.parsed in
+    let laid = same_laid files inputs library parsed is.inputs is.library is.layout is.stripped.laid in
+    let e = same_read files inputs library parsed is.inputs is.stripped.laid.parsed.read in
+    let alike = same_layout files inputs library layout is.layout sound.stripped.laid laid in
+    let none = breaks_none_alike (pos 1) inputs.tables.source (MaskCovers layout) (MaskCovers is.layout) (λ m h. alike_cells layout is.layout alike m) sound.clean in
+    first_breaks (pos 1) is.inputs.tables.source (MaskCovers is.layout) rule p q found needed is.broken
+    (subst (λ (i : Inputs). BreaksNoRule (pos 1) i.tables.source (MaskCovers is.layout)) (sym e) none)
+
+more_or_thin : (target : Tech) (labels : List Label) (strips : List Placed) → HasMore target labels strips → IsThin target labels strips → ⊥
+more_or_thin target labels strips (inl some) thin = some thin.no_labels
+more_or_thin target labels strips (inr (inl (i, j, stands))) thin = thin.none_stands i j stands
+more_or_thin target labels strips (inr (inr wide)) thin = let fits = thin.side_by_side in omega (arith, ints, wide, fits)
+
+pub more_taken : MoreIsntTaken
+more_taken files inputs library layout strips is taken =
+    let sound = taken.sound in
+    let parsed = sound.stripped.laid.parsed in
+    let stripped = same_stripped files inputs library parsed is.inputs is.library is.layout is.strips is.sound.stripped in
+    let e = same_read files inputs library parsed is.inputs is.sound.stripped.laid.parsed.read in
+    let alike = same_layout files inputs library is.layout layout stripped.laid sound.stripped.laid in
+    let strips_same = same_strips files inputs library is.layout layout is.strips strips stripped.laid sound.stripped.laid stripped.are_strips sound.stripped.are_strips in
+    more_or_thin inputs.tables.target layout.labels strips
+    (subst (λ (i : Inputs). HasMore i.tables.target layout.labels strips) e
+    (subst (λ (labels : List Label). HasMore is.inputs.tables.target labels strips) alike.labels
+    (subst (λ (s : List Placed). HasMore is.inputs.tables.target is.layout.labels s) strips_same is.more)))
+    taken.thin
 
 -- sizes without a fault aren't refused
-not_refused : (asked : Sizes) (key : List ℕ) (cause : TableCause) → RefusesSizes (wishes_fault asked []) (BadSizes key cause) → wishes_fault asked [] ≡ None → ⊥
+not_refused : (asked : Sizes) (key : List ℕ) (cause : TableCause) → RefusesSizes (wishes_fault asked []) (table.BadSizes key cause) → wishes_fault asked [] ≡ None → ⊥
 not_refused asked key cause refused none = let told = rw none at refused in cc
 
-pub stray_not_done : StrayIsNotDone
-stray_not_done source stable ttable sizes key out cause stray done =
-    let same = one_reading stable ttable sizes _ _ _ _ _ _ done.thin.files stray.thin.files in
-    not_refused stray.thin.asked key cause stray.refused (subst (λ (z : Sizes). wishes_fault z [] ≡ None) same.sizes done.no_strays)
-
-pub not_built_not_thin : NotBuiltIsNotThin
-not_built_not_thin source stable ttable sizes (inl more) thin =
-    let same = one_reading stable ttable sizes _ _ _ _ _ _ thin.files more.files in
-    more.more (same_built thin.source_table more.source_table thin.asked more.asked same.source same.sizes thin.built)
-not_built_not_thin source stable ttable sizes (inr none) thin =
-    let same = one_reading stable ttable sizes _ _ _ _ _ _ thin.files none.files in
-    let flat = flattened_too none.library thin.library none.asked.cell thin.asked.cell none.source_table thin.source_table thin.laid_out.flat
-    (one_library source thin.library none.library thin.stream none.stream) (ap (λ (z : Sizes). z.cell) same.sizes) same.source thin.laid_out.flattened in
-    none.not_thin (thin_too thin.target_table none.target_table thin.laid_out.flat none.flat same.target
-    (one_flat none.library.structures none.asked.cell none.source_table thin.laid_out.flat none.flat flat none.flattened) thin.laid_out.thin)
-
-pub no_stream_alone : NoStreamIsAlone
-no_stream_alone source stable ttable sizes offset cause is (inl thin) = nowhere source thin.library offset cause thin.stream is.stops
-no_stream_alone source stable ttable sizes offset cause is (inr (inl more)) =
-    let same = one_reading stable ttable sizes _ _ _ _ _ _ is.files more.files in
-    more.more (same_built is.source_table more.source_table is.asked more.asked same.source same.sizes is.built)
-no_stream_alone source stable ttable sizes offset cause is (inr (inr none)) = nowhere source none.library offset cause none.stream is.stops
-
-pub unflattened_alone : UnflattenedIsAlone
-unflattened_alone source stable ttable sizes error offset cause is (inl thin) =
-    let same = one_reading stable ttable sizes _ _ _ _ _ _ thin.files is.files in
-    let flat = flattened_too is.library thin.library is.asked.cell thin.asked.cell is.source_table thin.source_table thin.laid_out.flat
-    (one_library source thin.library is.library thin.stream is.stream) (ap (λ (z : Sizes). z.cell) same.sizes) same.source thin.laid_out.flattened in
-    flattened_not_refused is.library.structures is.asked.cell is.source_table thin.laid_out.flat error flat is.refused is.no_want
-unflattened_alone source stable ttable sizes error offset cause is (inr (inl (inl more))) =
-    let same = one_reading stable ttable sizes _ _ _ _ _ _ is.files more.files in
-    more.more (same_built is.source_table more.source_table is.asked more.asked same.source same.sizes is.built)
-unflattened_alone source stable ttable sizes error offset cause is (inr (inl (inr none))) =
-    let same = one_reading stable ttable sizes _ _ _ _ _ _ none.files is.files in
-    let flat = flattened_too is.library none.library is.asked.cell none.asked.cell is.source_table none.source_table none.flat
-    (one_library source none.library is.library none.stream is.stream) (ap (λ (z : Sizes). z.cell) same.sizes) same.source none.flattened in
-    flattened_not_refused is.library.structures is.asked.cell is.source_table none.flat error flat is.refused is.no_want
-unflattened_alone source stable ttable sizes error offset cause is (inr (inr none)) = nowhere source is.library offset cause is.stream none.stops
+pub strays_wished : StraysArentWished
+strays_wished files inputs library layout strips key cause is wished =
+    let parsed = wished.taken.sound.stripped.laid.parsed in
+    let e = same_read files inputs library parsed is.inputs is.taken.sound.stripped.laid.parsed.read in
+    not_refused is.inputs.asked key cause is.refused (subst (λ (i : Inputs). wishes_fault i.asked [] ≡ None) (sym e) wished.no_strays)

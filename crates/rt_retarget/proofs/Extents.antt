@@ -4,8 +4,8 @@ use Rattle.std.proofs.lemmas.Int.{ints}
 use Rattle.std.proofs.lemmas.List.{map_more}
 use Rattle.rt_tech.specs.declared.table.Tech.{Tech}
 use Rattle.rt_tech.specs.Tech.{width_of, space_of}
-use Rattle.rt_template.specs.declared.job.Strip.{Strip}
-use Rattle.rt_template.specs.Strips.{Placed, placed}
+use Rattle.rt_strips.specs.declared.listing.Strip.{Strip}
+use Rattle.rt_strips.specs.Placed.{Placed, placed}
 use Rattle.rt_template.specs.Separate.{extent_side_by_side}
 
 last_sum : (a b c d : ℤ) → c ≡ (d +ℤ a) → (b +ℤ c) ≡ ((b +ℤ d) +ℤ a)

@@ -1,7 +1,9 @@
 pub mod Extents
-pub mod Items
 pub mod Cells
 pub mod Readings
 pub mod Flattened
+pub mod Stripped
 pub mod Assembled
 pub mod Excluded
+pub mod Moving
+pub mod Standing

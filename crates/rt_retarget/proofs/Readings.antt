@@ -5,7 +5,7 @@ use Rattle.rt_tech.specs.declared.table.Which.TheVariants.{Source, Target}
 use Rattle.rt_tech.specs.declared.sizes.Sizes.{Sizes}
 use Rattle.rt_sizes.specs.SizesFile.{DescribesSizes, sizes_of}
 use Rattle.rt_tables.proofs.Valid.{same_table}
-use Rattle.rt_retarget.specs.Thin.{AreFiles}
+use Rattle.rt_retarget.specs.Files.{AreFiles}
 
 pub same_sizes : (target : Tech) (bytes : List ℕ) (a b : Sizes) → DescribesSizes target bytes a → DescribesSizes target bytes b → a ≡ b
 same_sizes target bytes a b x y =

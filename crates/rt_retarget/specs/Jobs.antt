@@ -1,24 +1,46 @@
--- The job of the four files, and the stream that is written for a job.
-use Rattle.std.specs.Prelude.{◌≡◌, ℕ, ℤ, ◌≤◌, ◌≤ℤ◌, List, [], None, length}
+-- The job of the four files, what is written for it, and what functions on the way are told and tell.
+use Rattle.std.specs.Prelude.{◌≡◌, ℕ, ℤ, pos, ◌≤◌, ◌≤ℤ◌, List, [], None, length, map}
+use Rattle.gds_flat.specs.declared.error.FlatError.{FlatError}
+use Rattle.gds_flat.specs.declared.error.FlatError.TheVariants as flat
+use Rattle.gds_flat.specs.Refused.{IsFlattened}
 use Rattle.gds_stream.specs.declared.cell.Flat.{Flat}
 use Rattle.gds_stream.specs.declared.library.Library.{Library}
 use Rattle.gds_stream.specs.Contents.{Stream}
 use Rattle.gds_stream.specs.Written.{OneCell, written}
+use Rattle.rt_keys.specs.declared.error.TableError.{TableError}
+use Rattle.rt_keys.specs.declared.error.TableError.TheVariants as table
+use Rattle.rt_layout.specs.declared.layout.Layout.{Layout}
+use Rattle.rt_layout.specs.Covering.{MaskCovers}
+use Rattle.rt_nets.specs.declared.shapes.View.{View}
+use Rattle.rt_nets.specs.View.{IsViewOf}
 use Rattle.rt_rows.specs.declared.row.Var.{Var}
-use Rattle.rt_tech.specs.declared.sizes.Sizes.{Sizes}
+use Rattle.rt_rules.specs.Rules.{BreaksNoRule}
+use Rattle.rt_sizes.specs.SizesFile.{IsFaultySizes}
 use Rattle.rt_sizes.specs.Wishes.{wishes_fault}
+use Rattle.rt_strips.specs.declared.listing.Strip.{Strip}
+use Rattle.rt_strips.specs.Channels.{AreLayoutStrips}
+use Rattle.rt_strips.specs.Placed.{Placed, placed}
+use Rattle.rt_strips.specs.Standing.{StandsOn}
+use Rattle.rt_tables.specs.Forms.{AreParted}
+use Rattle.rt_tables.specs.Tables.{IsTechOf, HasTableFault}
+use Rattle.rt_tech.specs.declared.sizes.Sizes.{Sizes}
 use Rattle.rt_tech.specs.declared.table.Tech.{Tech}
+use Rattle.rt_tech.specs.declared.table.Which.{Which}
+use Rattle.rt_tech.specs.declared.table.Which.TheVariants.{Source, Target}
 use Rattle.rt_tech.specs.Tech.{mask_count, IsMeasured}
 use Rattle.rt_template.specs.declared.job.Job.{Job}
-use Rattle.rt_template.specs.Strips.{Placed}
 use Rattle.rt_template.specs.Across.{strips_of, extent_limit, IsLeastAcross}
 use Rattle.rt_template.specs.Upwards.{IsLeastUpwards}
-use Rattle.rt_template.specs.Drawing.{AreStripsOf}
-use Rattle.rt_template.specs.Rules.{BreaksNoRule}
 use Rattle.rt_template.specs.Separate.{AreSeparateStrips, AreOnMasksOf, extent_side_by_side}
-use Rattle.rt_retarget.specs.declared.layout.TheConstants.{RECTANGLE_LIMIT}
-use Rattle.rt_retarget.specs.Thin.{AreFiles, AreBuilt, IsThinLayout}
 use Rattle.rt_carry.specs.Shapes.{IsDrawingOf}
+use Rattle.rt_retarget.specs.declared.answer.Fault.{Fault}
+use Rattle.rt_retarget.specs.declared.answer.Fault.TheVariants.{TableToml, BadTable, TablesDiffer, SizesToml, BadSizes, Unsupported, NoSuchStructure, Cyclic, UnmappedLayer, ArrayStep, CoordinateRange, TooDeep, TooMany, OutOfMemory}
+use Rattle.rt_retarget.specs.declared.answer.What.TheVariants.{Items}
+use Rattle.rt_retarget.specs.declared.inputs.Inputs.{Inputs}
+use Rattle.rt_retarget.specs.declared.source.TheConstants.{STRIP_LIMIT}
+use Rattle.rt_retarget.specs.Files.{Given, AreBuilt}
+use Rattle.rt_retarget.specs.Stages.{AreRead, IsParsed, IsLaid, IsStripped, IsThin, IsTaken}
+use Rattle.rt_retarget.specs.Answers.{IsNoDocument, IsFaultOf}
 
 -- two tables whose numbers are in their ranges, of as many masks
 pub record AreMatched (source_table target_table : Tech) : Type 0 where
@@ -26,39 +48,134 @@ pub record AreMatched (source_table target_table : Tech) : Type 0 where
   pub target : IsMeasured target_table
   pub same_masks : mask_count source_table ≡ mask_count target_table
 
--- strips that are separate, few, on masks of the target's table, and fit side by side, and tables whose numbers are in their ranges
-pub record AreThinStrips (source_table target_table : Tech) (strips : List Placed) : Type 0 where
-  pub separate : AreSeparateStrips strips
-  pub few : length strips ≤ RECTANGLE_LIMIT
-  pub on_masks : AreOnMasksOf target_table strips
-  pub source : IsMeasured source_table
-  pub target : IsMeasured target_table
-  pub side_by_side : extent_side_by_side target_table strips ≤ℤ extent_limit
+-- a job of strips that are separate, few, on masks of the target's table, and fit side by side, with tables whose numbers are in their
+-- ranges
+pub record IsThinJob (job : Job) : Type 0 where
+  pub separate : AreSeparateStrips (strips_of job)
+  pub few : length (strips_of job) ≤ STRIP_LIMIT
+  pub on_masks : AreOnMasksOf job.target (strips_of job)
+  pub source : IsMeasured job.source
+  pub target : IsMeasured job.target
+  pub side_by_side : extent_side_by_side job.target (strips_of job) ≤ℤ extent_limit
 
--- a job with such strips and tables
-abbrev pub IsThinJob : Job → Type 0
-IsThinJob job = AreThinStrips job.source job.target (strips_of job)
+-- a refusal of a table, as a refusal of the job
+abbrev pub IsTableRefusal : Which → TableError → Fault → Type 0
+IsTableRefusal which table.BadToml fault = fault ≡ TableToml which
+IsTableRefusal which (table.BadTable key cause) fault = fault ≡ BadTable which key cause
+IsTableRefusal which (table.TablesDiffer key) fault = fault ≡ TablesDiffer key
+IsTableRefusal which (table.BadSizes key cause) fault = fault ≡ BadSizes key cause
+IsTableRefusal which table.OutOfMemory fault = fault ≡ OutOfMemory
 
--- the library's cell has a thin layout that breaks no rule of the source's table, nothing is asked of devices that it doesn't have,
--- and these are its strips
-pub record IsSoundCell (library : Library) (source_table target_table : Tech) (asked : Sizes) (strips : List Placed) : Type 0 where
-  pub layout : List Placed
-  pub laid_out : IsThinLayout library asked.cell source_table target_table layout
-  pub sound : BreaksNoRule source_table layout
-  pub no_strays : wishes_fault asked [] ≡ None
-  pub are_strips : AreStripsOf layout strips
-  pub thin : AreThinStrips source_table target_table strips
+-- a refusal of a sizes file, as a refusal of the job
+abbrev pub IsSizesRefusal : TableError → Fault → Type 0
+IsSizesRefusal table.BadToml fault = fault ≡ SizesToml
+IsSizesRefusal error fault = IsTableRefusal Target error fault
 
--- what the files ask for is built, the source is the library's stream, and these are the strips of its cell, which is sound
-pub record IsSoundSource (source : List ℕ) (library : Library) (source_table target_table : Tech) (asked : Sizes) (strips : List Placed) : Type 0 where
-  pub built : AreBuilt source_table asked
+-- a refusal of a cell that isn't flattened, as a refusal of the job: want of memory is the job's own
+abbrev pub IsFlatRefusal : FlatError → Fault → Type 0
+IsFlatRefusal (flat.Unsupported offset odd) fault = fault ≡ Unsupported offset odd
+IsFlatRefusal (flat.NoSuchStructure name) fault = fault ≡ NoSuchStructure name
+IsFlatRefusal (flat.Cyclic names) fault = fault ≡ Cyclic names
+IsFlatRefusal (flat.UnmappedLayer layer number) fault = fault ≡ UnmappedLayer layer number
+IsFlatRefusal (flat.ArrayStep offset) fault = fault ≡ ArrayStep offset
+IsFlatRefusal (flat.CoordinateRange offset) fault = fault ≡ CoordinateRange offset
+IsFlatRefusal (flat.TooMany count) fault = fault ≡ TooMany Items count
+IsFlatRefusal flat.TooDeep fault = fault ≡ TooDeep
+IsFlatRefusal flat.OutOfMemory fault = fault ≡ OutOfMemory
+
+-- of a table
+abbrev pub IsTableFaultOf : Which → List ℕ → Fault → Type 0
+IsTableFaultOf which bytes (TableToml w) = (w ≡ which) × IsNoDocument bytes
+IsTableFaultOf which bytes (BadTable w key cause) = (w ≡ which) × HasTableFault which bytes (table.BadTable key cause)
+IsTableFaultOf which bytes OutOfMemory = Unit {0}
+IsTableFaultOf which bytes _ = ⊥
+
+-- of two tables that were read
+abbrev pub IsFormFaultOf : Tech → Tech → Fault → Type 0
+IsFormFaultOf source target (TablesDiffer key) = AreParted source target key
+IsFormFaultOf source target OutOfMemory = Unit {0}
+IsFormFaultOf source target _ = ⊥
+
+-- of a sizes file, for a target table
+abbrev pub IsSizesFaultOf : Tech → List ℕ → Fault → Type 0
+IsSizesFaultOf target bytes SizesToml = IsNoDocument bytes
+IsSizesFaultOf target bytes (BadSizes key cause) = IsFaultySizes target bytes (table.BadSizes key cause)
+IsSizesFaultOf target bytes OutOfMemory = Unit {0}
+IsSizesFaultOf target bytes _ = ⊥
+
+-- four files by their bytes
+abbrev pub given : List ℕ → List ℕ → List ℕ → List ℕ → Given
+given source stable ttable sizes = record { source = source; stable = stable; ttable = ttable; sizes = sizes }
+
+-- of a target's table, beside a source's table that was read: a refusal of the files, whatever else they hold
+abbrev pub IsFaultOfTarget : Tech → List ℕ → Fault → Type 0
+IsFaultOfTarget source_table ttable fault = (source stable sizes : List ℕ) → IsTechOf Source stable source_table → IsFaultOf (given source stable ttable sizes) fault
+
+-- of the two tables: a refusal of the files, whatever the source and the sizes file hold
+abbrev pub IsFaultOfTables : List ℕ → List ℕ → Fault → Type 0
+IsFaultOfTables stable ttable fault = (source sizes : List ℕ) → IsFaultOf (given source stable ttable sizes) fault
+
+-- of the tables and the sizes file: a refusal of the files, whatever the source holds
+abbrev pub IsFaultOfInputs : List ℕ → List ℕ → List ℕ → Fault → Type 0
+IsFaultOfInputs stable ttable sizes fault = (source : List ℕ) → IsFaultOf (given source stable ttable sizes) fault
+
+-- of a source, by inputs that were read: a refusal of the files that they were read from
+abbrev pub IsFaultOfRead : List ℕ → Inputs → Fault → Type 0
+IsFaultOfRead source inputs fault = (stable ttable sizes : List ℕ) → AreRead (given source stable ttable sizes) inputs → IsFaultOf (given source stable ttable sizes) fault
+
+-- the same at the stages behind it
+abbrev pub IsFaultOfParsed : Inputs → Library → Fault → Type 0
+IsFaultOfParsed inputs library fault = (files : Given) → IsParsed files inputs library → IsFaultOf files fault
+
+abbrev pub IsFaultOfLaid : Inputs → Layout → Fault → Type 0
+IsFaultOfLaid inputs layout fault = (files : Given) (library : Library) → IsLaid files inputs library layout → IsFaultOf files fault
+
+abbrev pub IsFaultOfView : Inputs → View → Fault → Type 0
+IsFaultOfView inputs view fault = (files : Given) (library : Library) (layout : Layout) → IsViewOf layout inputs.tables.source view
+    → IsStripped files inputs library layout (map placed view.strips.list) → IsFaultOf files fault
+
+abbrev pub IsFaultOfTaken : Inputs → Fault → Type 0
+IsFaultOfTaken inputs fault = (files : Given) (library : Library) (layout : Layout) (strips : List Placed)
+    → IsTaken files inputs library layout strips → IsFaultOf files fault
+
+-- the view of a layout that has few strips and breaks no rule of the source's table
+pub record IsSoundView (inputs : Inputs) (layout : Layout) (view : View) : Type 0 where
+  pub is_view : IsViewOf layout inputs.tables.source view
+  pub few : length view.strips.list ≤ STRIP_LIMIT
+  pub clean : BreaksNoRule (pos 1) inputs.tables.source (MaskCovers layout)
+
+-- some strip stands on another; none does
+abbrev pub SomeStands : List Placed → Type 0
+SomeStands strips = (i : ℕ) × (j : ℕ) × StandsOn strips i j
+
+abbrev pub NoneStands : List Placed → Type 0
+NoneStands strips = (i j : ℕ) → ¬ StandsOn strips i j
+
+-- these are the strips of the library's cell, which is sound and of what is moved so far
+pub record IsCheckedCell (inputs : Inputs) (library : Library) (strips : List Strip) : Type 0 where
+  pub layout : Layout
+  pub flattened : IsFlattened library.structures inputs.asked.cell inputs.tables.source layout
+  pub are_strips : AreLayoutStrips layout inputs.tables.source (map placed strips)
+  pub few : length strips ≤ STRIP_LIMIT
+  pub clean : BreaksNoRule (pos 1) inputs.tables.source (MaskCovers layout)
+  pub thin : IsThin inputs.tables.target layout.labels (map placed strips)
+  pub no_strays : wishes_fault inputs.asked [] ≡ None
+
+-- what is read of a source whose cell is moved, by inputs that were read
+pub record IsReadSource (source : List ℕ) (inputs : Inputs) (library : Library) (strips : List Strip) : Type 0 where
+  pub built : AreBuilt inputs.tables.source inputs.asked
   pub stream : Stream source library
-  pub cell : IsSoundCell library source_table target_table asked strips
+  pub cell : IsCheckedCell inputs library strips
+
+-- the inputs of a job: its tables, and what is asked for
+abbrev pub inputs_of : Job → Sizes → Inputs
+inputs_of job asked = record { tables = record { source = job.source; target = job.target }; asked = asked }
 
 -- the job of the four files: its tables and what is asked are read from them, and its strips are those of the source
-pub record IsJobOfFiles (source stable ttable sizes : List ℕ) (library : Library) (asked : Sizes) (job : Job) : Type 0 where
-  pub files : AreFiles stable ttable sizes job.source job.target asked
-  pub sound : IsSoundSource source library job.source job.target asked (strips_of job)
+pub record IsJobOfFiles (files : Given) (library : Library) (asked : Sizes) (job : Job) : Type 0 where
+  pub read : AreRead files (inputs_of job asked)
+  pub source_read : IsReadSource files.source (inputs_of job asked) library job.strips
+  pub thin : IsThinJob job
 
 -- the cell is the drawing of a job at its least positions
 pub record IsDrawnFor (job : Job) (library_name cell : List ℕ) (flat : Flat) : Type 0 where

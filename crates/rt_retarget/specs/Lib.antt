@@ -1,7 +1,7 @@
-pub mod Layout
-pub mod Thin
+pub mod Files
+pub mod Stages
+pub mod Written
 pub mod Moved
 pub mod Answers
-pub mod Stages
 pub mod Jobs
-pub mod Exclusion
+pub mod Ladder

@@ -1,117 +1,67 @@
--- What a refusal says of one file, or of what was read of it.
-use Rattle.std.specs.Prelude.{◌≡◌, ◌≢◌, ℕ, List, []}
-use Rattle.gds_grammar.specs.Stops.{Stops}
-use Rattle.gds_stream.specs.declared.error.StreamError.{StreamError}
-use Rattle.gds_stream.specs.declared.error.StreamError.TheVariants as stream_error
+-- What is known of the files, stage by stage: each stage holds the one before it.
+use Rattle.std.specs.Prelude.{◌≡◌, ℕ, ◌≤◌, ◌<◌, ℤ, pos, ◌≤ℤ◌, ◌<ℤ◌, ◌⊎◌, ◌≢◌, List, [], None, length, map}
 use Rattle.gds_stream.specs.declared.library.Library.{Library}
-use Rattle.gds_stream.specs.declared.library.Structure.{Structure}
 use Rattle.gds_stream.specs.Contents.{Stream}
-use Rattle.gds_flat.specs.declared.error.FlatError.{FlatError}
-use Rattle.gds_flat.specs.declared.error.FlatError.TheVariants as flat_error
-use Rattle.gds_flat.specs.Refused.{FlatRefused}
-use Rattle.rt_tech.specs.declared.table.Tech.{Tech}
-use Rattle.rt_tech.specs.declared.table.Which.{Which}
-use Rattle.rt_tech.specs.declared.table.Which.TheVariants.{Source, Target}
-use Rattle.rt_keys.specs.declared.error.TableError.{TableError}
-use Rattle.rt_keys.specs.declared.error.TableError.TheVariants as table
-use Rattle.rt_tech.specs.declared.sizes.Sizes.{Sizes}
-use Rattle.rt_tables.specs.Tables.{IsTechOf, HasTableFault}
-use Rattle.rt_tables.specs.Forms.{AreParted}
-use Rattle.rt_sizes.specs.Refusals.{RefusesSizes}
-use Rattle.rt_sizes.specs.SizesFile.{IsFaultySizes}
+use Rattle.gds_flat.specs.Refused.{IsFlattened}
+use Rattle.rt_layout.specs.declared.layout.Label.{Label}
+use Rattle.rt_layout.specs.declared.layout.Layout.{Layout}
+use Rattle.rt_layout.specs.Covering.{MaskCovers}
+use Rattle.rt_rules.specs.Rules.{BreaksNoRule}
 use Rattle.rt_sizes.specs.Wishes.{wishes_fault}
-use Rattle.rt_template.specs.Strips.{Placed}
-use Rattle.rt_template.specs.Rules.{IsFirstBreach}
-use Rattle.rt_retarget.specs.declared.answer.Fault.{Fault}
-use Rattle.rt_retarget.specs.declared.answer.Fault.TheVariants.{TableToml, BadTable, TablesDiffer, SizesToml, BadSizes, BadStream, Unflattened, SourceRule, OutOfMemory}
-use Rattle.rt_retarget.specs.Thin.{AreFiles, AreBuilt}
-use Rattle.rt_retarget.specs.Answers.{IsNoDocument, IsFaultOf, mask_of_rule, IsMaskNamed}
+use Rattle.rt_strips.specs.Channels.{AreLayoutStrips}
+use Rattle.rt_strips.specs.Placed.{Placed}
+use Rattle.rt_strips.specs.Standing.{StandsOn}
+use Rattle.rt_tech.specs.declared.table.Tech.{Tech}
+use Rattle.rt_template.specs.Across.{extent_limit}
+use Rattle.rt_template.specs.Separate.{extent_side_by_side}
+use Rattle.rt_retarget.specs.declared.inputs.Inputs.{Inputs}
+use Rattle.rt_retarget.specs.declared.source.TheConstants.{STRIP_LIMIT}
+use Rattle.rt_retarget.specs.Files.{Given, AreFiles, AreBuilt}
 
--- a refusal of a table, as a refusal of the job
-abbrev pub IsTableRefusal : Which → TableError → Fault → Type 0
-IsTableRefusal which table.BadToml fault = fault ≡ TableToml which
-IsTableRefusal which (table.BadTable key cause) fault = fault ≡ BadTable which key cause
-IsTableRefusal which (table.TablesDiffer key) fault = fault ≡ TablesDiffer key
-IsTableRefusal which (table.BadSizes key cause) fault = fault ≡ BadSizes key cause
-IsTableRefusal which table.OutOfMemory fault = fault ≡ OutOfMemory
+-- the tables are valid and of one form, and the sizes file is valid for the target's
+pub record AreRead (files : Given) (inputs : Inputs) : Type 0 where
+  pub files_are : AreFiles files.stable files.ttable files.sizes inputs.tables.source inputs.tables.target inputs.asked
 
--- a refusal of a sizes file, as a refusal of the job
-abbrev pub IsSizesRefusal : TableError → Fault → Type 0
-IsSizesRefusal table.BadToml fault = fault ≡ SizesToml
-IsSizesRefusal error fault = IsTableRefusal Target error fault
+-- and they ask for what is built, and the source is the stream of a library
+pub record IsParsed (files : Given) (inputs : Inputs) (library : Library) : Type 0 where
+  pub read : AreRead files inputs
+  pub built : AreBuilt inputs.tables.source inputs.asked
+  pub stream : Stream files.source library
 
--- a refusal of bytes that are no stream, as a refusal of the job
-abbrev pub IsStreamRefusal : StreamError → Fault → Type 0
-IsStreamRefusal (stream_error.At offset cause) fault = fault ≡ BadStream offset cause
-IsStreamRefusal stream_error.OutOfMemory fault = fault ≡ OutOfMemory
+-- and the library's cell is flattened by the source's table to a layout
+pub record IsLaid (files : Given) (inputs : Inputs) (library : Library) (layout : Layout) : Type 0 where
+  pub parsed : IsParsed files inputs library
+  pub flattened : IsFlattened library.structures inputs.asked.cell inputs.tables.source layout
 
--- a refusal of a cell that isn't flattened, as a refusal of the job: want of memory is the job's own
-abbrev pub IsFlatRefusal : FlatError → Fault → Type 0
-IsFlatRefusal flat_error.OutOfMemory fault = fault ≡ OutOfMemory
-IsFlatRefusal error fault = fault ≡ Unflattened error
+-- and these are the layout's strips, no more than are taken
+pub record IsStripped (files : Given) (inputs : Inputs) (library : Library) (layout : Layout) (strips : List Placed) : Type 0 where
+  pub laid : IsLaid files inputs library layout
+  pub are_strips : AreLayoutStrips layout inputs.tables.source strips
+  pub few : length strips ≤ STRIP_LIMIT
 
--- of a table
-abbrev pub IsTableFaultOf : Which → List ℕ → Fault → Type 0
-IsTableFaultOf which bytes (TableToml w) = (w ≡ which) × IsNoDocument bytes
-IsTableFaultOf which bytes (BadTable w key cause) = (w ≡ which) × HasTableFault which bytes (table.BadTable key cause)
-IsTableFaultOf which bytes OutOfMemory = Unit {0}
-IsTableFaultOf which bytes _ = ⊥
+-- and the layout breaks no rule of the source's table
+pub record IsSound (files : Given) (inputs : Inputs) (library : Library) (layout : Layout) (strips : List Placed) : Type 0 where
+  pub stripped : IsStripped files inputs library layout strips
+  pub clean : BreaksNoRule (pos 1) inputs.tables.source (MaskCovers layout)
 
--- of two tables that were read
-abbrev pub IsFormFaultOf : Tech → Tech → Fault → Type 0
-IsFormFaultOf source target (TablesDiffer key) = AreParted source target key
-IsFormFaultOf source target OutOfMemory = Unit {0}
-IsFormFaultOf source target _ = ⊥
+-- what is moved so far: no labels, and strips none of which stands on another, and which fit the greatest extent side by side in
+-- one row, at the target's widths and spaces
+pub record IsThin (target_table : Tech) (labels : List Label) (strips : List Placed) : Type 0 where
+  pub no_labels : labels ≡ []
+  pub none_stands : (i j : ℕ) → ¬ StandsOn strips i j
+  pub side_by_side : extent_side_by_side target_table strips ≤ℤ extent_limit
 
--- of a sizes file, for a target table
-abbrev pub IsSizesFaultOf : Tech → List ℕ → Fault → Type 0
-IsSizesFaultOf target bytes SizesToml = IsNoDocument bytes
-IsSizesFaultOf target bytes (BadSizes key cause) = IsFaultySizes target bytes (table.BadSizes key cause)
-IsSizesFaultOf target bytes OutOfMemory = Unit {0}
-IsSizesFaultOf target bytes _ = ⊥
+-- what isn't moved yet: a label, a strip that stands on another, or too many strips for the greatest extent
+abbrev pub HasMore : Tech → List Label → List Placed → Type 0
+HasMore target_table labels strips =
+    (labels ≢ []) ⊎ ((i : ℕ) × (j : ℕ) × StandsOn strips i j) ⊎ (extent_limit <ℤ extent_side_by_side target_table strips)
 
--- of a source that was read as a stream
-abbrev pub IsStreamFaultOf : List ℕ → Fault → Type 0
-IsStreamFaultOf source (BadStream offset cause) = Stops source offset cause
-IsStreamFaultOf source OutOfMemory = Unit {0}
-IsStreamFaultOf source _ = ⊥
+-- and the layout is of what is moved so far
+pub record IsTaken (files : Given) (inputs : Inputs) (library : Library) (layout : Layout) (strips : List Placed) : Type 0 where
+  pub sound : IsSound files inputs library layout strips
+  pub thin : IsThin inputs.tables.target layout.labels strips
 
--- of a library whose cell was to be flattened
-abbrev pub IsFlatFaultOf : List Structure → List ℕ → Tech → Fault → Type 0
-IsFlatFaultOf library cell tech (Unflattened error) = FlatRefused library cell tech error × (error ≢ flat_error.OutOfMemory)
-IsFlatFaultOf library cell tech OutOfMemory = Unit {0}
-IsFlatFaultOf library cell tech _ = ⊥
-
--- of a layout that was checked against the rules of its table
-abbrev pub IsSourceFaultOf : Tech → List Placed → Fault → Type 0
-IsSourceFaultOf tech layout (SourceRule rule mask p q found needed) = IsFirstBreach tech layout rule p q found needed × IsMaskNamed tech (mask_of_rule rule) mask
-IsSourceFaultOf tech layout OutOfMemory = Unit {0}
-IsSourceFaultOf tech layout _ = ⊥
-
--- of the sizes that are asked for, where the cell has no device
-abbrev pub IsStrayFaultOf : Sizes → Fault → Type 0
-IsStrayFaultOf asked (BadSizes key cause) = RefusesSizes (wishes_fault asked []) (table.BadSizes key cause)
-IsStrayFaultOf asked OutOfMemory = Unit {0}
-IsStrayFaultOf asked _ = ⊥
-
--- of a target's table, beside a source's table that was read: a refusal of the files, whatever else they hold
-abbrev pub IsFaultOfTarget : Tech → List ℕ → Fault → Type 0
-IsFaultOfTarget source_table ttable fault = (source stable sizes : List ℕ) → IsTechOf Source stable source_table → IsFaultOf source stable ttable sizes fault
-
--- of the two tables: a refusal of the files, whatever the source and the sizes file hold
-abbrev pub IsFaultOfTables : List ℕ → List ℕ → Fault → Type 0
-IsFaultOfTables stable ttable fault = (source sizes : List ℕ) → IsFaultOf source stable ttable sizes fault
-
--- of the tables and the sizes file: a refusal of the files, whatever the source holds
-abbrev pub IsFaultOfInputs : List ℕ → List ℕ → List ℕ → Fault → Type 0
-IsFaultOfInputs stable ttable sizes fault = (source : List ℕ) → IsFaultOf source stable ttable sizes fault
-
--- of a source, by tables and sizes that were read: a refusal of the files that they were read from
-abbrev pub IsFaultOfSource : List ℕ → Tech → Tech → Sizes → Fault → Type 0
-IsFaultOfSource source source_table target_table asked fault = (stable ttable sizes : List ℕ)
-    → AreFiles stable ttable sizes source_table target_table asked → IsFaultOf source stable ttable sizes fault
-
--- of a library's cell, by tables and sizes that ask for what is built: a refusal of the files that all of them were read from
-abbrev pub IsFaultOfCell : Library → Tech → Tech → Sizes → Fault → Type 0
-IsFaultOfCell library source_table target_table asked fault = (source : List ℕ)
-    → AreBuilt source_table asked → Stream source library → IsFaultOfSource source source_table target_table asked fault
+-- and the sizes file asks for no device, as the cell has none
+pub record IsWished (files : Given) (inputs : Inputs) (library : Library) (layout : Layout) (strips : List Placed) : Type 0 where
+  pub taken : IsTaken files inputs library layout strips
+  pub no_strays : wishes_fault inputs.asked [] ≡ None

@@ -1,5 +1,5 @@
 //! What a retargeting answers.
-use gds_flat::FlatError;
+use gds_flat::Odd;
 use gds_stream::Cause;
 use rt_base::{Cell, List, Text};
 use rt_tech::{RuleName, TableCause, Which};
@@ -17,6 +17,15 @@ pub enum Outcome {
         /// The report. It is empty: reports aren't built yet.
         report: List<u8>,
     },
+}
+
+/// Of what there are too many.
+#[derive(Clone, Copy, Debug, PartialEq, Eq, Drop)]
+pub enum What {
+    /// Rectangles and labels of the flat cell.
+    Items,
+    /// Strips of its layout.
+    Strips,
 }
 
 /// Why a retargeting is refused.
@@ -68,17 +77,62 @@ pub enum Fault {
         /// Why no stream goes on there.
         cause: Cause,
     },
-    /// The cell of the source isn't flattened: an element, a name, a circle, a depth, a layer, a step, a count or a coordinate
-    /// that isn't taken. Never for want of memory, which is `OutOfMemory`.
-    #[error("the cell isn't flattened")]
-    Unflattened(FlatError),
+    /// An element on a mapped layer that the cell reaches isn't taken.
+    #[error("an element isn't taken")]
+    Unsupported {
+        /// The place of the element's first record.
+        offset: u64,
+        /// What isn't taken of it.
+        odd: Odd,
+    },
+    /// The cell, or a structure that it reaches, isn't in the library.
+    #[error("no such structure")]
+    NoSuchStructure {
+        /// The name.
+        name: Text,
+    },
+    /// The cell reaches structures that place one another in a ring.
+    #[error("a ring of structures")]
+    Cyclic {
+        /// The names along the ring, the first of which is also the last.
+        names: List<Text>,
+    },
+    /// An element that the cell reaches is on a layer that the source's table neither maps nor ignores.
+    #[error("an unmapped layer")]
+    UnmappedLayer {
+        /// The layer.
+        layer: i16,
+        /// Its data type, text type or box type.
+        number: i16,
+    },
+    /// The points of an array that the cell reaches give no whole step.
+    #[error("an array without a whole step")]
+    ArrayStep {
+        /// The place of the array's first record.
+        offset: u64,
+    },
+    /// A corner or a label of the flat cell lies too far out.
+    #[error("a coordinate out of range")]
+    CoordinateRange {
+        /// The place of its element's first record.
+        offset: u64,
+    },
+    /// A chain of references is too long.
+    #[error("structures placed too deep")]
+    TooDeep,
+    /// There are more items, or more strips, than are taken.
+    #[error("too many: {count}")]
+    TooMany {
+        /// Of what.
+        what: What,
+        /// How many there are; 2^64 - 1 where there are more.
+        count: u64,
+    },
     /// The source breaks this rule of its own table, the first one that it breaks.
     #[error("the source breaks a rule")]
     SourceRule {
         /// The rule.
         rule: RuleName,
-        /// The name of its mask.
-        mask: Text,
         /// One of the two cells that show it.
         p: Cell,
         /// The other cell.

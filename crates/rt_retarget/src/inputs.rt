@@ -5,8 +5,9 @@ ghost use Rattle.rt_tables.specs.Tables.{IsTechOf};
 ghost use Rattle.rt_tables.specs.Forms.{HaveSameForm};
 ghost use Rattle.rt_sizes.specs.SizesFile.{DescribesSizes};
 ghost use Rattle.rt_sizes.specs.Wishes.{wishes_fault};
-ghost use Rattle.rt_retarget.specs.Thin.{AreTables, AreFiles, IsMetal, AreBuilt, IsTargetOf};
-ghost use Rattle.rt_retarget.specs.Stages.{IsTableFaultOf, IsFormFaultOf, IsSizesFaultOf, IsStrayFaultOf, IsFaultOfTarget, IsFaultOfTables, IsFaultOfInputs};
+ghost use Rattle.rt_nets.specs.View.{IsMetal};
+ghost use Rattle.rt_retarget.specs.Files.{AreTables, AreFiles, AreBuilt, IsTargetOf};
+ghost use Rattle.rt_retarget.specs.Jobs.{IsTableFaultOf, IsFormFaultOf, IsSizesFaultOf, IsFaultOfTarget, IsFaultOfTables, IsFaultOfInputs, IsFaultOfTaken};
 
 use crate::answer::Fault;
 use crate::refusals::{sizes_refusal, table_refusal};
@@ -120,11 +121,11 @@ fn are_metals(masks: &[Mask]) -> bool
 }
 
 /// That the sizes file has sizes for no device, since the cell has none; or the first that it has.
-pub fn check_strays(alloc: Global, asked: &Sizes) -> Result<(), Fault>
-    ensures none { OnOk result (wishes_fault asked.now [] ≡ None) }
-    ensures refused { IfErr result (IsStrayFaultOf asked.now) }
+pub fn check_strays(alloc: Global, inputs: &Inputs) -> Result<(), Fault>
+    ensures none { OnOk result (wishes_fault inputs.now.asked [] ≡ None) }
+    ensures refused { IfErr result (IsFaultOfTaken inputs.now) }
 {
-    match wishes(alloc, asked, &[]) {
+    match wishes(alloc, &inputs.asked, &[]) {
         Ok(_) => Ok(()),
         Err(error) => Err(table_refusal(Which::Target, error)),
     }

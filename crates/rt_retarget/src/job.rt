@@ -1,7 +1,7 @@
 //! The whole job, from the bytes of the four files to what is answered.
 ghost use Rattle.std.specs.Prelude.{◌≡◌, ◌<◌, ◌≤◌, [], length, IfOk, IfErr};
 ghost use Rattle.rt_retarget.specs.Answers.{IsOutcomeOf, IsFaultOf};
-ghost use Rattle.rt_retarget.specs.Jobs.{IsJobOfFiles};
+ghost use Rattle.rt_retarget.specs.Jobs.{IsJobOfFiles, given};
 
 use crate::answer::{Fault, Outcome};
 use crate::inputs::read_inputs;
@@ -26,8 +26,9 @@ struct Work {
 /// The four files are the source stream, its rule table, the target's rule table and the sizes file. They are looked at
 /// in this order, and the first that holds is answered: `TableToml` and `BadTable` of the source's table, then of the
 /// target's; `TablesDiffer`; `SizesToml` and `BadSizes`; `NotBuilt`, where a mask isn't metal, there is a distance between
-/// masks or a mirror is asked for; `BadStream`; `Unflattened`; `NotBuilt`, where the flat layout isn't thin; `SourceRule`;
-/// `BadSizes`, where there are sizes for a device. `OutOfMemory` comes only for want of memory, and want of memory is
+/// masks or a mirror is asked for; `BadStream`; the refusals of the flattening, `TooMany` of items among them; `TooMany` of
+/// strips; `SourceRule`; `NotBuilt`, where the layout has a label, a strip stands on another, or the strips don't fit the greatest extent
+/// side by side; `BadSizes`, where there are sizes for a device. `OutOfMemory` comes only for want of memory, and want of memory is
 /// answered in no other form.
 pub fn retarget(
     alloc: Global,
@@ -36,8 +37,8 @@ pub fn retarget(
     ttable: &[u8],
     sizes: &[u8],
 ) -> Result<Outcome, Fault>
-    ensures done { IfOk result (IsOutcomeOf source.now stable.now ttable.now sizes.now) }
-    ensures refused { IfErr result (IsFaultOf source.now stable.now ttable.now sizes.now) }
+    ensures done { IfOk result (IsOutcomeOf (given source.now stable.now ttable.now sizes.now)) }
+    ensures refused { IfErr result (IsFaultOf (given source.now stable.now ttable.now sizes.now)) }
 {
     let work = read_work(alloc, source, stable, ttable, sizes)?;
     let bytes = stream_of(alloc, &work.job, &work.library.name, &work.asked.cell)?;
@@ -56,8 +57,8 @@ fn read_work(
     ttable: &[u8],
     sizes: &[u8],
 ) -> Result<Work, Fault>
-    ensures job { IfOk result (λ work. IsJobOfFiles source.now stable.now ttable.now sizes.now work.library work.asked work.job) }
-    ensures refused { IfErr result (IsFaultOf source.now stable.now ttable.now sizes.now) }
+    ensures job { IfOk result (λ work. IsJobOfFiles (given source.now stable.now ttable.now sizes.now) work.library work.asked work.job) }
+    ensures refused { IfErr result (IsFaultOf (given source.now stable.now ttable.now sizes.now)) }
 {
     let inputs = read_inputs(alloc, stable, ttable, sizes)?;
     let found = read_source(alloc, source, &inputs)?;

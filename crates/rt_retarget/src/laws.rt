@@ -1,41 +1,27 @@
-ghost use Rattle.rt_retarget.specs.Exclusion.{DoneIsSound, DoneIsThin, StrayIsSound, StrayIsNotDone, NotBuiltIsNotThin, NoStreamIsAlone, UnflattenedIsAlone};
+//! The laws of this crate, each a function without a body whose contract is the law: what is refused at a stage isn't at the next one.
+ghost use Rattle.rt_retarget.specs.Ladder.{NoTableIsntRead, BadTableIsntRead, TwoFormsArentRead, NoSizesArentRead, BadSizesArentRead, MoreIsntParsed, NoStreamIsntParsed, UnflattenedIsntLaid, TooManyIsntStripped, UnsoundIsntSound, MoreIsntTaken, StraysArentWished};
 
-/// Law: files whose cell is moved are never refused for a broken rule. With `strays_are_alone`, `SourceRule`
-/// comes exactly where the files are thin input and a rule is broken, want of memory aside.
-pub fn done_is_sound()
-    ensures { DoneIsSound }
+/// Law: files of which a table or the sizes file is refused, or whose tables are of two forms, aren't read.
+pub fn refused_tables_and_sizes_are_not_read()
+    ensures no_table { NoTableIsntRead }
+    ensures bad_table { BadTableIsntRead }
+    ensures two_forms { TwoFormsArentRead }
+    ensures no_sizes { NoSizesArentRead }
+    ensures bad_sizes { BadSizesArentRead }
 {}
 
-/// Law: files whose cell is moved are thin input. So are those that are refused for a broken rule, by that
-/// answer's own clause.
-pub fn done_is_thin()
-    ensures { DoneIsThin }
+/// Law: files that are refused for what isn't built, for their stream or for its flattening have no layout.
+pub fn refused_sources_have_no_layout()
+    ensures more { MoreIsntParsed }
+    ensures no_stream { NoStreamIsntParsed }
+    ensures unflattened { UnflattenedIsntLaid }
 {}
 
-/// Law: files whose sizes are for devices that aren't there are neither refused for a broken rule nor moved.
-/// So `BadSizes` for them comes exactly where the files are thin input that breaks no rule and has such sizes, want of
-/// memory aside.
-pub fn strays_are_alone()
-    ensures sound { StrayIsSound }
-    ensures not_done { StrayIsNotDone }
-{}
-
-/// Law: what is refused as not built is no thin input. So `NotBuilt` and the answers for thin input exclude
-/// each other.
-pub fn not_built_is_not_thin()
-    ensures { NotBuiltIsNotThin }
-{}
-
-/// Law: files whose source is no stream are neither thin input nor refused as not built. So `BadStream` comes
-/// exactly where the tables and the sizes file are valid and ask for what is built, and the source is no stream, want of
-/// memory aside.
-pub fn no_stream_is_alone()
-    ensures { NoStreamIsAlone }
-{}
-
-/// Law: files whose cell isn't flattened are neither thin input nor refused as not built, and their source is a
-/// stream. So `Unflattened` comes exactly where the files before it are valid and ask for what is built, the source is a stream,
-/// and its cell is refused, want of memory aside.
-pub fn unflattened_is_alone()
-    ensures { UnflattenedIsAlone }
+/// Law: files that are refused for their strips, for a broken rule, for what isn't moved yet or for stray sizes aren't moved. With the two laws
+/// above, a refusal at one stage excludes each answer of a later stage.
+pub fn refused_layouts_are_not_moved()
+    ensures too_many { TooManyIsntStripped }
+    ensures unsound { UnsoundIsntSound }
+    ensures more { MoreIsntTaken }
+    ensures strays { StraysArentWished }
 {}

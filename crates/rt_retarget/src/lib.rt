@@ -5,14 +5,14 @@ mod answer;
 mod inputs;
 mod job;
 mod laws;
-mod layout;
 mod output;
 mod refusals;
 mod source;
+mod thin;
 
-pub use answer::{Fault, Outcome};
+pub use answer::{Fault, Outcome, What};
 pub use job::retarget;
 pub use laws::{
-    done_is_sound, done_is_thin, no_stream_is_alone, not_built_is_not_thin, strays_are_alone,
-    unflattened_is_alone,
+    refused_layouts_are_not_moved, refused_sources_have_no_layout,
+    refused_tables_and_sizes_are_not_read,
 };

@@ -1,10 +1,9 @@
 //! What the layers below refuse, as a refusal of the job. It knows no file.
 ghost use Rattle.std.specs.Prelude.{◌≡◌};
-ghost use Rattle.rt_retarget.specs.Stages.{IsTableRefusal, IsSizesRefusal, IsStreamRefusal, IsFlatRefusal};
+ghost use Rattle.rt_retarget.specs.Jobs.{IsTableRefusal, IsSizesRefusal, IsFlatRefusal};
 
-use crate::answer::Fault;
+use crate::answer::{Fault, What};
 use gds_flat::FlatError;
-use gds_stream::StreamError;
 use rt_base::OutOfMemory;
 use rt_keys::TableError;
 use rt_tech::Which;
@@ -42,22 +41,22 @@ pub fn sizes_refusal(error: TableError) -> Fault
     }
 }
 
-/// The refusal of bytes that are no stream.
-pub fn stream_refusal(error: StreamError) -> Fault
-    ensures { IsStreamRefusal error result }
-{
-    match error {
-        StreamError::At { offset, cause } => Fault::BadStream { offset, cause },
-        StreamError::OutOfMemory => Fault::OutOfMemory,
-    }
-}
-
 /// The refusal of a cell that isn't flattened. Want of memory has one form, whichever layer wants it.
 pub fn flat_refusal(error: FlatError) -> Fault
     ensures { IsFlatRefusal error result }
 {
     match error {
+        FlatError::Unsupported { offset, odd } => Fault::Unsupported { offset, odd },
+        FlatError::NoSuchStructure { name } => Fault::NoSuchStructure { name },
+        FlatError::Cyclic { names } => Fault::Cyclic { names },
+        FlatError::UnmappedLayer { layer, number } => Fault::UnmappedLayer { layer, number },
+        FlatError::ArrayStep { offset } => Fault::ArrayStep { offset },
+        FlatError::CoordinateRange { offset } => Fault::CoordinateRange { offset },
+        FlatError::TooMany { count } => Fault::TooMany {
+            what: What::Items,
+            count,
+        },
+        FlatError::TooDeep => Fault::TooDeep,
         FlatError::OutOfMemory => Fault::OutOfMemory,
-        error => Fault::Unflattened(error),
     }
 }

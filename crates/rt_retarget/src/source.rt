@@ -1,30 +1,33 @@
-//! The source: its library, the flat layout of its cell, the rules that it keeps, and its strips.
-ghost use Rattle.std.specs.Prelude.{◌≡◌, ◌<◌, ◌≤◌, length, map, IfOk, IfErr, OnOk};
+//! The source: its library, the flat layout of its cell, the layout's strips, the rules that it keeps, and what of it is moved.
+ghost use Rattle.std.specs.Prelude.{◌≡◌, ◌≤◌, pos, length, All, IfOk, IfErr, OnOk};
 ghost use Rattle.gds_flat.specs.Drawn.{AreDrawable};
 ghost use Rattle.gds_flat.specs.Refused.{IsFlattened};
 ghost use Rattle.gds_stream.specs.Contents.{Stream};
+ghost use Rattle.rt_nets.specs.View.{IsMetal, IsViewOf, IsView};
+ghost use Rattle.rt_retarget.specs.declared.answer.Fault.TheVariants.{OutOfMemory as NoMemory};
+ghost use Rattle.rt_rules.specs.Rules.{BreaksNoRule};
+ghost use Rattle.rt_strips.specs.Channels.{IsStripsOf};
 ghost use Rattle.rt_tech.specs.Tech.{mask_count, IsMeasured};
-ghost use Rattle.rt_template.specs.Strips.{placed};
-ghost use Rattle.rt_template.specs.Rules.{BreaksNoRule};
-ghost use Rattle.rt_template.specs.Separate.{AreSeparateStrips, AreOnMasksOf};
-ghost use Rattle.rt_retarget.specs.Answers.{mask_of_rule, IsMaskNamed};
-ghost use Rattle.rt_retarget.specs.Jobs.{AreMatched, IsSoundCell, IsSoundSource};
-ghost use Rattle.rt_retarget.specs.Stages.{IsStreamFaultOf, IsFlatFaultOf, IsSourceFaultOf, IsFaultOfCell, IsFaultOfSource};
-ghost use Rattle.rt_retarget.specs.Thin.{IsThinLayout};
+ghost use Rattle.rt_drc.specs.Rows.{cells_of};
+ghost use Rattle.rt_retarget.specs.Files.{AreBuilt};
+ghost use Rattle.rt_retarget.specs.Jobs.{AreMatched, IsReadSource, IsSoundView, IsCheckedCell, IsFaultOfRead, IsFaultOfParsed, IsFaultOfLaid, IsFaultOfView};
 
-use crate::answer::Fault;
+use crate::answer::{Fault, What};
 use crate::inputs::{Inputs, are_built, check_strays};
-use crate::layout::lay_out;
-use crate::refusals::{flat_refusal, stream_refusal};
+use crate::refusals::flat_refusal;
+use crate::thin::has_more;
 use gds_flat::flatten;
-use gds_stream::{Library, read_stream};
-use rt_base::{List, OutOfMemory, Text};
+use gds_stream::{Library, StreamError, read_stream};
+use rt_base::List;
 use rt_drc::check_rules;
 use rt_layout::Layout;
-use rt_strips::strips_in_order;
-use rt_tech::{RuleError, RuleName, Tech};
-use rt_template::Strip;
+use rt_nets::{NetError, View, view_of};
+use rt_strips::{Strip, StripError, Strips, strips_of};
+use rt_tech::{RuleError, Tech};
 use std::alloc::Global;
+
+/// The most strips of a cell that is moved. (This project's own.)
+pub const STRIP_LIMIT: u32 = 120;
 
 /// What the source holds.
 #[derive(Drop)]
@@ -35,82 +38,119 @@ pub struct Source {
     pub strips: List<Strip>,
 }
 
-/// What the source holds, where the files ask for what is built, its cell is thin input that breaks no rule of the source's
-/// table, and no sizes are asked for devices; or the first of these that fails.
+/// What the source holds, where the files ask for what is built, its cell is sound by the source's table and of what is moved so far, and no
+/// sizes are asked for devices; or the first of these that fails.
 pub fn read_source(alloc: Global, bytes: &[u8], inputs: &Inputs) -> Result<Source, Fault>
     requires { AreMatched inputs.now.tables.source inputs.now.tables.target }
-    ensures read { IfOk result (λ source. IsSoundSource bytes.now source.library inputs.now.tables.source inputs.now.tables.target inputs.now.asked (map placed source.strips)) }
-    ensures refused { IfErr result (IsFaultOfSource bytes.now inputs.now.tables.source inputs.now.tables.target inputs.now.asked) }
+    ensures read { IfOk result (λ source. IsReadSource bytes.now inputs.now source.library source.strips) }
+    ensures refused { IfErr result (IsFaultOfRead bytes.now inputs.now) }
 {
     if !are_built(&inputs.tables.source, &inputs.asked) {
         return Err(Fault::NotBuilt);
     }
-    let library = read_library(alloc, bytes)?;
-    let strips = sound_strips(alloc, &library, inputs)?;
+    let library = read_library(alloc, bytes, inputs)?;
+    let strips = cell_strips(alloc, &library, inputs)?;
     Ok(Source { library, strips })
 }
 
 // The library that the source holds, or where and why it is no stream.
-fn read_library(alloc: Global, source: &[u8]) -> Result<Library, Fault>
-    ensures stream { IfOk result (λ library. Stream source.now library) }
-    ensures refused { IfErr result (IsStreamFaultOf source.now) }
+fn read_library(alloc: Global, source: &[u8], inputs: &Inputs) -> Result<Library, Fault>
+    requires { AreBuilt inputs.now.tables.source inputs.now.asked }
+    ensures stream { IfOk result (Stream source.now) }
+    ensures refused { IfErr result (IsFaultOfRead source.now inputs.now) }
 {
     match read_stream(alloc, source) {
         Ok(library) => Ok(library),
-        Err(error) => Err(stream_refusal(error)),
+        Err(StreamError::At { offset, cause }) => Err(Fault::BadStream { offset, cause }),
+        Err(StreamError::OutOfMemory) => Err(Fault::OutOfMemory),
     }
 }
 
-// The strips of the library's cell, where it is sound.
-fn sound_strips(alloc: Global, library: &Library, inputs: &Inputs) -> Result<List<Strip>, Fault>
+// The strips of the library's cell, where its layout is sound and of what is moved so far.
+fn cell_strips(alloc: Global, library: &Library, inputs: &Inputs) -> Result<List<Strip>, Fault>
     requires tables { AreMatched inputs.now.tables.source inputs.now.tables.target }
+    requires built { AreBuilt inputs.now.tables.source inputs.now.asked }
     requires drawable { AreDrawable library.now.structures }
-    ensures strips { IfOk result (λ strips. IsSoundCell library.now inputs.now.tables.source inputs.now.tables.target inputs.now.asked (map placed strips)) }
-    ensures refused { IfErr result (IsFaultOfCell library.now inputs.now.tables.source inputs.now.tables.target inputs.now.asked) }
+    ensures strips { IfOk result (IsCheckedCell inputs.now library.now) }
+    ensures refused { IfErr result (IsFaultOfParsed inputs.now library.now) }
 {
-    let rectangles = thin_rectangles(alloc, library, inputs)?;
-    check_source(alloc, rectangles.as_slice(), &inputs.tables.source)?;
-    check_strays(alloc, &inputs.asked)?;
-    let strips = strips_in_order(alloc, rectangles)?;
-    Ok(strips)
-}
-
-// The rectangles of the library's cell, mask by mask, where its flat layout is thin.
-fn thin_rectangles(alloc: Global, library: &Library, inputs: &Inputs) -> Result<Vec<Strip>, Fault>
-    requires tables { AreMatched inputs.now.tables.source inputs.now.tables.target }
-    requires drawable { AreDrawable library.now.structures }
-    ensures laid_out { IfOk result (λ rectangles. IsThinLayout library.now inputs.now.asked.cell inputs.now.tables.source inputs.now.tables.target (map placed rectangles.items)) }
-    ensures refused { IfErr result (IsFaultOfCell library.now inputs.now.tables.source inputs.now.tables.target inputs.now.asked) }
-{
-    let flat = flat_cell(alloc, library, &inputs.asked.cell, &inputs.tables.source)?;
-    match lay_out(alloc, &flat, &inputs.tables.target)? {
-        Some(rectangles) => Ok(rectangles),
-        None => Err(Fault::NotBuilt),
+    let layout = flat_cell(alloc, library, inputs)?;
+    let view = sound_view(alloc, &layout, inputs)?;
+    if has_more(alloc, &view, &inputs.tables.target)? {
+        return Err(Fault::NotBuilt);
     }
+    check_strays(alloc, inputs)?;
+    Ok(view.strips.list)
 }
 
 // The flat layout of the library's cell by the source's table, or why it isn't flattened.
-fn flat_cell(alloc: Global, library: &Library, cell: &Text, table: &Tech) -> Result<Layout, Fault>
+fn flat_cell(alloc: Global, library: &Library, inputs: &Inputs) -> Result<Layout, Fault>
+    requires tables { AreMatched inputs.now.tables.source inputs.now.tables.target }
     requires drawable { AreDrawable library.now.structures }
-    requires masks { length table.now.masks ≤ 64 }
-    ensures flat { IfOk result (IsFlattened library.now.structures cell.now table.now) }
-    ensures refused { IfErr result (IsFlatFaultOf library.now.structures cell.now table.now) }
+    ensures flat { IfOk result (IsFlattened library.now.structures inputs.now.asked.cell inputs.now.tables.source) }
+    ensures refused { IfErr result (IsFaultOfParsed inputs.now library.now) }
 {
-    match flatten(alloc, library, cell, table) {
-        Ok(flat) => Ok(flat),
+    match flatten(alloc, library, &inputs.asked.cell, &inputs.tables.source) {
+        Ok(layout) => Ok(layout),
         Err(error) => Err(flat_refusal(error)),
     }
 }
 
-// That the rectangles break no rule of the source's table, or the first rule that they break.
-fn check_source(alloc: Global, rectangles: &[Strip], table: &Tech) -> Result<(), Fault>
-    requires separate { AreSeparateStrips (map placed rectangles.now) }
-    requires masks { AreOnMasksOf table.now (map placed rectangles.now) }
-    requires table { IsMeasured table.now }
-    ensures kept { OnOk result (BreaksNoRule table.now (map placed rectangles.now)) }
-    ensures broken { IfErr result (IsSourceFaultOf table.now (map placed rectangles.now)) }
+// The view of a layout that has few strips and breaks no rule of the source's table.
+fn sound_view(alloc: Global, layout: &Layout, inputs: &Inputs) -> Result<View, Fault>
+    requires tables { AreMatched inputs.now.tables.source inputs.now.tables.target }
+    requires built { AreBuilt inputs.now.tables.source inputs.now.asked }
+    requires masks { length layout.now.masks ≡ mask_count inputs.now.tables.source }
+    ensures view { IfOk result (IsSoundView inputs.now layout.now) }
+    ensures refused { IfErr result (IsFaultOfLaid inputs.now layout.now) }
 {
-    match check_rules(rectangles, table) {
+    let strips = layout_strips(alloc, layout, inputs)?;
+    let view = layout_view(alloc, layout, strips, &inputs.tables.source)?;
+    check_source(alloc, &view, inputs)?;
+    Ok(view)
+}
+
+// The strips of a layout, where they are few.
+fn layout_strips(alloc: Global, layout: &Layout, inputs: &Inputs) -> Result<Strips, Fault>
+    requires tables { AreMatched inputs.now.tables.source inputs.now.tables.target }
+    requires masks { length layout.now.masks ≡ mask_count inputs.now.tables.source }
+    ensures strips { IfOk result (IsStripsOf layout.now inputs.now.tables.source) }
+    ensures few { IfOk result (λ strips. length strips.list ≤ STRIP_LIMIT) }
+    ensures refused { IfErr result (IsFaultOfLaid inputs.now layout.now) }
+{
+    match strips_of(alloc, layout, &inputs.tables.source, STRIP_LIMIT) {
+        Ok(strips) => Ok(strips),
+        Err(StripError::TooMany { count }) => Err(Fault::TooMany {
+            what: What::Strips,
+            count,
+        }),
+        Err(StripError::OutOfMemory) => Err(Fault::OutOfMemory),
+    }
+}
+
+// The view of a layout of metals.
+fn layout_view(alloc: Global, layout: &Layout, strips: Strips, table: &Tech) -> Result<View, Fault>
+    requires metals { All IsMetal table.now.masks }
+    requires strips { IsStripsOf layout.now table.now strips }
+    ensures view { IfOk result (IsViewOf layout.now table.now) }
+    ensures same { IfOk result (λ view. view.strips ≡ strips) }
+    ensures refused { IfErr result (λ fault. fault ≡ NoMemory) }
+{
+    match view_of(alloc, layout, strips, table) {
+        Ok(view) => Ok(view),
+        Err(NetError::OutOfMemory) => Err(Fault::OutOfMemory),
+        Err(NetError::SourceShape { .. }) => unreachable!(),
+    }
+}
+
+// That the view breaks no rule of the source's table, or the first rule that it breaks.
+fn check_source(alloc: Global, view: &View, inputs: &Inputs) -> Result<(), Fault>
+    requires view { IsView inputs.now.tables.source view.now }
+    requires table { IsMeasured inputs.now.tables.source }
+    ensures kept { OnOk result (BreaksNoRule (pos 1) inputs.now.tables.source (cells_of view.now.strips.list)) }
+    ensures refused { IfErr result (IsFaultOfView inputs.now view.now) }
+{
+    match check_rules(alloc, view, &inputs.tables.source) {
         Ok(()) => Ok(()),
         Err(
             RuleError::Broken {
@@ -120,36 +160,13 @@ fn check_source(alloc: Global, rectangles: &[Strip], table: &Tech) -> Result<(),
                 found,
                 needed,
             },
-        ) => {
-            let mask = name_of_rule(alloc, table, &rule)?;
-            Err(Fault::SourceRule {
-                rule,
-                mask,
-                p,
-                q,
-                found,
-                needed,
-            })
-        }
+        ) => Err(Fault::SourceRule {
+            rule,
+            p,
+            q,
+            found,
+            needed,
+        }),
         Err(RuleError::OutOfMemory) => Err(Fault::OutOfMemory),
     }
-}
-
-// The name of the mask that a rule is of.
-fn name_of_rule(alloc: Global, table: &Tech, rule: &RuleName) -> Result<Text, OutOfMemory>
-    requires { mask_of_rule rule.now < mask_count table.now }
-    ensures { IfOk result (IsMaskNamed table.now (mask_of_rule rule.now)) }
-{
-    let number = match rule {
-        RuleName::Width(mask) => *mask,
-        RuleName::Space(mask) => *mask,
-        RuleName::Size(mask) => *mask,
-        RuleName::Enclose(_)
-        | RuleName::Cap
-        | RuleName::Ext
-        | RuleName::Cross
-        | RuleName::Apart(_) => 0,
-    };
-    let masks = table.masks.as_slice();
-    masks[number as usize].name.copy(alloc)
 }

@@ -10,7 +10,7 @@ use Rattle.rt_rules.specs.Width.{IsShortRun, WidthBreach}
 use Rattle.rt_rules.specs.Space.{SpaceBreach}
 use Rattle.rt_cells.specs.Rectangles.{Rectangle, IsNonempty, Holds, Covers, ShareCellOrSide, columns_between, rows_between}
 use Rattle.rt_rules.specs.Islands.{AreSeparate}
-use Rattle.rt_cells.proofs.Lines.{at_most, first_place, one_before, passed_along, nearest_within, nearest_between, nearest_meet, nearest_touch}
+use Rattle.rt_cells.proofs.Lines.{at_most, first_place, one_before, nearest_within, nearest_between, nearest_meet, nearest_touch}
 use Rattle.rt_rules.proofs.Families.{IsFamily, row_is_run}
 
 -- two of the rectangles that share a cell or a side are one

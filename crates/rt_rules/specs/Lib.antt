@@ -1,3 +1,4 @@
 pub mod Width
 pub mod Space
 pub mod Islands
+pub mod Rules

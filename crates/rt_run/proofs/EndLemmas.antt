@@ -41,10 +41,10 @@ silent_ends old mid new line number _ silent (failed is) =
 silent_ends old mid new line number _ silent (no_memory some count part) = no_memory some count (silent_part old mid new line count silent part)
 
 -- the line of a broken rule, where the two numbers are known as others
-pub rule_line : (old new : Outside) (rule : RuleName) (mask : List ℕ) (p q : Cell) (found needed f n : ℤ) (result : Result (Unit {0}) DeskError)
-    → f ≡ found → n ≡ needed → SaysLine old new (source_rule_line rule mask p q f n) result
-    → SaysLine old new (source_rule_line rule mask p q found needed) result
-rule_line old new rule mask p q found needed f n result e d says = rw (e, d) at says
+pub rule_line : (old new : Outside) (rule : RuleName) (names : List (List ℕ)) (p q : Cell) (found needed f n : ℤ) (result : Result (Unit {0}) DeskError)
+    → f ≡ found → n ≡ needed → SaysLine old new (source_rule_line rule names p q f n) result
+    → SaysLine old new (source_rule_line rule names p q found needed) result
+rule_line old new rule names p q found needed f n result e d says = rw (e, d) at says
 
 -- the line of a layer of no mask, where the two numbers are known as others
 pub layer_line : (old new : Outside) (layer number l n : ℤ) (result : Result (Unit {0}) DeskError)

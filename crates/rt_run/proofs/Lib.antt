@@ -3,3 +3,4 @@ pub mod Seven
 pub mod FetchLemmas
 pub mod EndLemmas
 pub mod MeaningLemmas
+pub mod MaskNames

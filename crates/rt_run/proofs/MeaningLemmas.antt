@@ -6,8 +6,9 @@ use Rattle.rt_desk.specs.Desk.{Files, Outside, IsOverLong, OnlyFetches, OnlySays
 use Rattle.rt_run.specs.declared.answer.Answer.{Answer}
 use Rattle.rt_run.specs.declared.answer.Answer.TheVariants.{Done, Usage, Refused, NotFetched, NotStored, OutOfMemory}
 use Rattle.rt_run.specs.declared.fetching.TheConstants.{FILE_LIMIT}
+use Rattle.rt_retarget.specs.Files.{Given}
 use Rattle.rt_run.specs.Words.{Names, AreWordsFor}
-use Rattle.rt_run.specs.Fetched.{Contents, AreFetched, FetchFails, IsNotFetched, fetched_names}
+use Rattle.rt_run.specs.Fetched.{AreFetched, FetchFails, IsNotFetched, fetched_names}
 use Rattle.rt_run.specs.Answers.{AreMovedTo, MeansOfContents, MeansOfStore, MeansOfFetched, MeansOfNames, MeansOfWords, Means}
 
 -- two moments have the same files and as many stores that were faults
@@ -23,39 +24,39 @@ same_failed a b c d out left right is = record {
 }
 
 -- what an answer means for the contents, by moments that have the same files
-same_contents : (contents : Contents) (out : List ℕ) (a b c d : Outside) (answer : Answer)
+same_contents : (contents : Given) (out : List ℕ) (a b c d : Outside) (answer : Answer)
     → AreSame a c → AreSame b d → MeansOfContents contents out a b answer → MeansOfContents contents out c d answer
 same_contents contents out a b c d Done left right means =
     record { bytes = means.bytes; moved = means.moved; stored = rw (left.files, right.files) means.stored }
 same_contents contents out a b c d NotStored left right means =
     record { bytes = means.bytes; moved = means.moved; failed = same_failed a b c d out left right means.failed }
-same_contents contents out a b c d (Refused fault) left right means = (means.0, rw (left.files, right.files) means.1)
+same_contents contents out a b c d (Refused refusal) left right means = (means.0, means.1, rw (left.files, right.files) means.2)
 same_contents contents out a b c d OutOfMemory left right means = rw (left.files, right.files) means
 same_contents contents out a b c d Usage left right means = means
 same_contents contents out a b c d (NotFetched file) left right means = means
 
 -- the cell was moved to these bytes, and this is what their store means
-pub of_store : (contents : Contents) (out bytes : List ℕ) (before after : Outside) (answer : Answer)
+pub of_store : (contents : Given) (out bytes : List ℕ) (before after : Outside) (answer : Answer)
     → AreMovedTo contents bytes → MeansOfStore before after out bytes answer → MeansOfContents contents out before after answer
 of_store contents out bytes before after Done moved means = record { bytes = bytes; moved = moved; stored = means }
 of_store contents out bytes before after NotStored moved means = record { bytes = bytes; moved = moved; failed = means }
 of_store contents out bytes before after OutOfMemory moved means = means
-of_store contents out bytes before after (Refused fault) moved means = absurd means
+of_store contents out bytes before after (Refused refusal) moved means = absurd means
 of_store contents out bytes before after Usage moved means = means
 of_store contents out bytes before after (NotFetched file) moved means = means
 
 -- what an answer means for the contents that were fetched, as what it means for the names
-fetched_means : (contents : Contents) (names : Names) (old new : Outside) (answer : Answer)
+fetched_means : (contents : Given) (names : Names) (old new : Outside) (answer : Answer)
     → AreFetched old.files names contents → MeansOfContents contents names.out old new answer → MeansOfNames names old new answer
 fetched_means contents names old new Done fetched means = record { contents = contents; fetched = fetched; means = means }
 fetched_means contents names old new NotStored fetched means = record { contents = contents; fetched = fetched; means = means }
-fetched_means contents names old new (Refused fault) fetched means = record { contents = contents; fetched = fetched; means = means }
+fetched_means contents names old new (Refused refusal) fetched means = record { contents = contents; fetched = fetched; means = means }
 fetched_means contents names old new OutOfMemory fetched means = means
 fetched_means contents names old new Usage fetched means = means
 fetched_means contents names old new (NotFetched file) fetched means = absurd means
 
 -- what an answer means for the names, where the four files were fetched
-pub of_contents : (contents : Contents) (names : Names) (old mid new : Outside) (answer : Answer)
+pub of_contents : (contents : Given) (names : Names) (old mid new : Outside) (answer : Answer)
     → AreFetched old.files names contents → OnlyFetches old mid → MeansOfContents contents names.out mid new answer → MeansOfNames names old new answer
 of_contents contents names old mid new answer fetched stays means =
     let left : AreSame mid old = record { files = sym stays.files; store_faults = sym stays.store_faults } in
@@ -67,7 +68,7 @@ pub of_names : (words : List (List ℕ)) (names : Names) (before after : Outside
     → AreWordsFor words names → MeansOfNames names before after answer → Means words before after answer
 of_names words names before after Done form means = record { names = names; form = form; means = means }
 of_names words names before after NotStored form means = record { names = names; form = form; means = means }
-of_names words names before after (Refused fault) form means = record { names = names; form = form; means = means }
+of_names words names before after (Refused refusal) form means = record { names = names; form = form; means = means }
 of_names words names before after (NotFetched file) form means = record { names = names; form = form; means = means }
 of_names words names before after OutOfMemory form means = record { names = names; form = form; means = means }
 of_names words names before after Usage form means = absurd means
@@ -110,7 +111,7 @@ fetched_until names old mid new answer stays is =
 names_until : (names : Names) (old mid new : Outside) (answer : Answer) → OnlySays mid new → MeansOfNames names old mid answer → MeansOfNames names old new answer
 names_until names old mid new Done stays is = fetched_until names old mid new Done stays is
 names_until names old mid new NotStored stays is = fetched_until names old mid new NotStored stays is
-names_until names old mid new (Refused fault) stays is = fetched_until names old mid new (Refused fault) stays is
+names_until names old mid new (Refused refusal) stays is = fetched_until names old mid new (Refused refusal) stays is
 names_until names old mid new (NotFetched file) stays is =
     (not_fetched_until old mid new (fetched_names names) file.name.now file.error stays is.0, stays.files ∙ is.1)
 names_until names old mid new OutOfMemory stays is = stays.files ∙ is
@@ -125,6 +126,6 @@ pub means_until : (words : List (List ℕ)) (old mid new : Outside) (answer : An
 means_until words old mid new Usage stays is = record { no_form = is.no_form; files = stays.files ∙ is.files }
 means_until words old mid new Done stays is = words_until words old mid new Done stays is
 means_until words old mid new NotStored stays is = words_until words old mid new NotStored stays is
-means_until words old mid new (Refused fault) stays is = words_until words old mid new (Refused fault) stays is
+means_until words old mid new (Refused refusal) stays is = words_until words old mid new (Refused refusal) stays is
 means_until words old mid new (NotFetched file) stays is = words_until words old mid new (NotFetched file) stays is
 means_until words old mid new OutOfMemory stays is = words_until words old mid new OutOfMemory stays is

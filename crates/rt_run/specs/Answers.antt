@@ -3,31 +3,24 @@ use Rattle.std.specs.Prelude.{◌≡◌, ℕ, List, [], codes}
 use Rattle.rt_desk.specs.declared.outside.DeskError.{DeskError}
 use Rattle.rt_desk.specs.declared.outside.DeskError.TheVariants as unfetched
 use Rattle.rt_desk.specs.Desk.{Outside, IsStored, IsFailedStore, IsSaid, IsSaidInPart, IsFailedSay}
-use Rattle.rt_lines.specs.Lines.{usage_line, bad_stream_line, table_fault_line, table_not_toml_line, tables_differ_line, sizes_fault_line, sizes_not_toml_line, source_rule_line, unfetched_line, not_built_line, unsupported_line, no_such_structure_line, cyclic_line, unmapped_layer_line, array_step_line, coordinate_range_line, too_many_items_line, too_deep_line}
+use Rattle.rt_lines.specs.Lines.{usage_line, bad_stream_line, table_fault_line, table_not_toml_line, tables_differ_line, sizes_fault_line, sizes_not_toml_line, source_rule_line, unfetched_line, not_built_line, unsupported_line, no_such_structure_line, cyclic_line, unmapped_layer_line, array_step_line, coordinate_range_line, too_many_line, too_deep_line}
 use Rattle.gds_flat.specs.declared.error.Odd.{Odd}
 use Rattle.gds_flat.specs.declared.error.Odd.TheVariants.{PathType, PathWidth, BoxElement, Magnification, Angle, Absolute, Slanted}
-use Rattle.gds_flat.specs.declared.error.FlatError.{FlatError}
-use Rattle.gds_flat.specs.declared.error.FlatError.TheVariants as flat
 use Rattle.rt_retarget.specs.declared.answer.Fault.{Fault}
-use Rattle.rt_retarget.specs.declared.answer.Fault.TheVariants.{TableToml, BadTable, TablesDiffer, SizesToml, BadSizes, NotBuilt, BadStream, Unflattened, SourceRule}
+use Rattle.rt_retarget.specs.declared.answer.Fault.TheVariants.{TableToml, BadTable, TablesDiffer, SizesToml, BadSizes, NotBuilt, BadStream, Unsupported, NoSuchStructure, Cyclic, UnmappedLayer, ArrayStep, CoordinateRange, TooDeep, TooMany, SourceRule}
 use Rattle.rt_retarget.specs.declared.answer.Fault.TheVariants as refused
+use Rattle.rt_retarget.specs.declared.answer.What.{What}
+use Rattle.rt_retarget.specs.declared.answer.What.TheVariants.{Items, Strips}
 use Rattle.rt_retarget.specs.Answers.{IsDone, IsFaultOf}
+use Rattle.rt_retarget.specs.Files.{Given}
+use Rattle.rt_tables.specs.Tables.{IsTechOf}
+use Rattle.rt_tech.specs.declared.table.Tech.{Tech}
+use Rattle.rt_tech.specs.declared.table.Which.TheVariants.{Source}
+use Rattle.rt_run.specs.Naming.{rule_names}
 use Rattle.rt_run.specs.declared.answer.Answer.{Answer}
 use Rattle.rt_run.specs.declared.answer.Answer.TheVariants.{Done, Usage, Refused, NotFetched, NotStored, OutOfMemory}
 use Rattle.rt_run.specs.Words.{Names, AreWordsFor}
-use Rattle.rt_run.specs.Fetched.{Contents, AreFetched, IsNotFetched, fetched_names}
-
--- the status of each reason for which the source's cell isn't flattened
-abbrev pub number_of_unflattened : FlatError → ℕ
-number_of_unflattened (flat.Unsupported offset odd) = 6
-number_of_unflattened (flat.NoSuchStructure name) = 6
-number_of_unflattened (flat.Cyclic names) = 6
-number_of_unflattened (flat.UnmappedLayer layer number) = 6
-number_of_unflattened (flat.ArrayStep offset) = 6
-number_of_unflattened (flat.CoordinateRange offset) = 6
-number_of_unflattened (flat.TooMany count) = 14
-number_of_unflattened flat.TooDeep = 6
-number_of_unflattened flat.OutOfMemory = 13
+use Rattle.rt_run.specs.Fetched.{AreFetched, IsNotFetched, fetched_names}
 
 -- the status of each refusal of the files
 abbrev pub number_of_refusal : Fault → ℕ
@@ -37,8 +30,15 @@ number_of_refusal (BadTable which key cause) = 4
 number_of_refusal (TablesDiffer key) = 4
 number_of_refusal SizesToml = 5
 number_of_refusal (BadSizes key cause) = 5
-number_of_refusal (Unflattened error) = number_of_unflattened error
-number_of_refusal (SourceRule rule mask p q found needed) = 7
+number_of_refusal (Unsupported offset odd) = 6
+number_of_refusal (NoSuchStructure name) = 6
+number_of_refusal (Cyclic names) = 6
+number_of_refusal (UnmappedLayer layer number) = 6
+number_of_refusal (ArrayStep offset) = 6
+number_of_refusal (CoordinateRange offset) = 6
+number_of_refusal TooDeep = 6
+number_of_refusal (SourceRule rule p q found needed) = 7
+number_of_refusal (TooMany what count) = 14
 number_of_refusal refused.OutOfMemory = 13
 number_of_refusal NotBuilt = 30
 
@@ -53,7 +53,7 @@ number_of_unfetched unfetched.OutOfMemory = 13
 abbrev pub number_of : Answer → ℕ
 number_of Done = 0
 number_of Usage = 2
-number_of (Refused fault) = number_of_refusal fault
+number_of (Refused refusal) = number_of_refusal refusal.fault
 number_of (NotFetched file) = number_of_unfetched file.error
 number_of NotStored = 12
 number_of OutOfMemory = 13
@@ -68,44 +68,60 @@ odd_word Angle = codes "Angle"
 odd_word Absolute = codes "Absolute"
 odd_word Slanted = codes "Slanted"
 
--- the line of each reason for which the source's cell isn't flattened; want of memory has none
-abbrev pub line_of_unflattened : FlatError → List ℕ
-line_of_unflattened (flat.Unsupported offset odd) = unsupported_line offset (odd_word odd)
-line_of_unflattened (flat.NoSuchStructure name) = no_such_structure_line name
-line_of_unflattened (flat.Cyclic names) = cyclic_line names
-line_of_unflattened (flat.UnmappedLayer layer number) = unmapped_layer_line layer number
-line_of_unflattened (flat.ArrayStep offset) = array_step_line offset
-line_of_unflattened (flat.CoordinateRange offset) = coordinate_range_line offset
-line_of_unflattened (flat.TooMany count) = too_many_items_line count
-line_of_unflattened flat.TooDeep = too_deep_line
-line_of_unflattened flat.OutOfMemory = []
+-- of what there are too many
+abbrev pub what_word : What → List ℕ
+what_word Items = codes "items"
+what_word Strips = codes "strips"
 
--- the line of each refusal of the files; want of memory has none
-abbrev pub line_of_refusal : Fault → List ℕ
-line_of_refusal (BadStream offset cause) = bad_stream_line offset cause
-line_of_refusal (TableToml which) = table_not_toml_line which
-line_of_refusal (BadTable which key cause) = table_fault_line which key cause
-line_of_refusal (TablesDiffer key) = tables_differ_line key
-line_of_refusal SizesToml = sizes_not_toml_line
-line_of_refusal (BadSizes key cause) = sizes_fault_line key cause
-line_of_refusal (Unflattened error) = line_of_unflattened error
-line_of_refusal (SourceRule rule mask p q found needed) = source_rule_line rule mask p q found needed
-line_of_refusal refused.OutOfMemory = []
-line_of_refusal NotBuilt = not_built_line
+-- the line of each refusal of the files, with the names of the masks of a broken rule; want of memory has none
+abbrev pub line_of_refusal : Fault → List (List ℕ) → List ℕ
+line_of_refusal (BadStream offset cause) names = bad_stream_line offset cause
+line_of_refusal (TableToml which) names = table_not_toml_line which
+line_of_refusal (BadTable which key cause) names = table_fault_line which key cause
+line_of_refusal (TablesDiffer key) names = tables_differ_line key
+line_of_refusal SizesToml names = sizes_not_toml_line
+line_of_refusal (BadSizes key cause) names = sizes_fault_line key cause
+line_of_refusal (Unsupported offset odd) names = unsupported_line offset (odd_word odd)
+line_of_refusal (NoSuchStructure name) names = no_such_structure_line name
+line_of_refusal (Cyclic ring) names = cyclic_line ring
+line_of_refusal (UnmappedLayer layer number) names = unmapped_layer_line layer number
+line_of_refusal (ArrayStep offset) names = array_step_line offset
+line_of_refusal (CoordinateRange offset) names = coordinate_range_line offset
+line_of_refusal TooDeep names = too_deep_line
+line_of_refusal (TooMany what count) names = too_many_line count (what_word what)
+line_of_refusal (SourceRule rule p q found needed) names = source_rule_line rule names p q found needed
+line_of_refusal refused.OutOfMemory names = []
+line_of_refusal NotBuilt names = not_built_line
 
 -- the line of each answer; a moved cell, a failed store and want of memory have none
 abbrev pub line_of : Answer → List ℕ
 line_of Done = []
 line_of Usage = usage_line
-line_of (Refused fault) = line_of_refusal fault
+line_of (Refused refusal) = line_of_refusal refusal.fault refusal.names
 line_of (NotFetched file) = unfetched_line file.error file.name.now
 line_of NotStored = []
 line_of OutOfMemory = []
 
-module _ (contents : Contents) where
+-- the names that a refusal's line says: of a broken rule those of its masks in the source's table, of another refusal none
+abbrev pub AreNamesFor : List ℕ → Fault → List (List ℕ) → Type 0
+AreNamesFor stable (SourceRule rule p q found needed) names = (table : Tech) × IsTechOf Source stable table × (names ≡ rule_names table rule)
+AreNamesFor stable fault names = names ≡ []
+
+-- a broken rule is one of a source's table that is valid
+abbrev pub IsBrokenIn : List ℕ → Fault → Type 0
+IsBrokenIn stable (SourceRule rule p q found needed) = (table : Tech) × IsTechOf Source stable table
+IsBrokenIn stable fault = Unit {0}
+
+-- what an answer means for a refusal: it is the refusal with its names, or there was no memory for them
+abbrev pub MeansOfRefusal : List ℕ → Fault → Answer → Type 0
+MeansOfRefusal stable fault (Refused refusal) = (refusal.fault ≡ fault) × AreNamesFor stable refusal.fault refusal.names
+MeansOfRefusal stable fault OutOfMemory = Unit {0}
+MeansOfRefusal stable fault _ = ⊥
+
+module _ (contents : Given) where
   -- the cell of the files was moved to these bytes
   abbrev pub AreMovedTo : List ℕ → Type 0
-  AreMovedTo bytes = IsDone contents.source contents.stable contents.ttable contents.sizes bytes
+  AreMovedTo bytes = IsDone contents bytes
 
   -- the cell was moved to these bytes, OUT holds them, and every other file is as it was
   pub record IsStoredDone (out : List ℕ) (before after : Outside) : Type 0 where
@@ -123,8 +139,8 @@ module _ (contents : Contents) where
   abbrev pub MeansOfContents : List ℕ → Outside → Outside → Answer → Type 0
   MeansOfContents out before after Done = IsStoredDone out before after
   MeansOfContents out before after NotStored = IsNotStored out before after
-  MeansOfContents out before after (Refused fault) =
-      IsFaultOf contents.source contents.stable contents.ttable contents.sizes fault × (after.files ≡ before.files)
+  MeansOfContents out before after (Refused refusal) =
+      IsFaultOf contents refusal.fault × AreNamesFor contents.stable refusal.fault refusal.names × (after.files ≡ before.files)
   MeansOfContents out before after OutOfMemory = after.files ≡ before.files
   MeansOfContents out before after Usage = ⊥
   MeansOfContents out before after (NotFetched file) = ⊥
@@ -138,7 +154,7 @@ MeansOfStore before after out bytes _ = ⊥
 
 -- the four files were fetched, and the answer means this for their contents
 pub record MeansOfFetched (names : Names) (before after : Outside) (answer : Answer) : Type 0 where
-  pub contents : Contents
+  pub contents : Given
   pub fetched : AreFetched before.files names contents
   pub means : MeansOfContents contents names.out before after answer
 
@@ -146,7 +162,7 @@ pub record MeansOfFetched (names : Names) (before after : Outside) (answer : Ans
 abbrev pub MeansOfNames : Names → Outside → Outside → Answer → Type 0
 MeansOfNames names before after Done = MeansOfFetched names before after Done
 MeansOfNames names before after NotStored = MeansOfFetched names before after NotStored
-MeansOfNames names before after (Refused fault) = MeansOfFetched names before after (Refused fault)
+MeansOfNames names before after (Refused refusal) = MeansOfFetched names before after (Refused refusal)
 MeansOfNames names before after (NotFetched file) =
     IsNotFetched before after (fetched_names names) file.name.now file.error × (after.files ≡ before.files)
 MeansOfNames names before after OutOfMemory = after.files ≡ before.files
@@ -168,7 +184,7 @@ abbrev pub Means : List (List ℕ) → Outside → Outside → Answer → Type 0
 Means words before after Usage = IsUsage words before after
 Means words before after Done = MeansOfWords words before after Done
 Means words before after NotStored = MeansOfWords words before after NotStored
-Means words before after (Refused fault) = MeansOfWords words before after (Refused fault)
+Means words before after (Refused refusal) = MeansOfWords words before after (Refused refusal)
 Means words before after (NotFetched file) = MeansOfWords words before after (NotFetched file)
 Means words before after OutOfMemory = MeansOfWords words before after OutOfMemory
 

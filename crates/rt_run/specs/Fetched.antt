@@ -3,17 +3,11 @@ use Rattle.std.specs.Prelude.{◌≡◌, ◌≤◌, List, [], ◌∷◌, ◌++�
 use Rattle.rt_desk.specs.declared.outside.DeskError.{DeskError}
 use Rattle.rt_desk.specs.Desk.{Files, Outside, IsFetched, FetchAnswer}
 use Rattle.rt_run.specs.declared.fetching.TheConstants.{FILE_LIMIT}
+use Rattle.rt_retarget.specs.Files.{Given}
 use Rattle.rt_run.specs.Words.{Names}
 
--- the bytes of the four files
-pub record Contents : Type 0 where
-  pub source : List ℕ
-  pub stable : List ℕ
-  pub ttable : List ℕ
-  pub sizes : List ℕ
-
 -- the four files were fetched: where the desk tells its files, these are their bytes
-pub record AreFetched (files : Option Files) (names : Names) (contents : Contents) : Type 0 where
+pub record AreFetched (files : Option Files) (names : Names) (contents : Given) : Type 0 where
   pub source : IsFetched files names.source FILE_LIMIT contents.source
   pub stable : IsFetched files names.stable FILE_LIMIT contents.stable
   pub ttable : IsFetched files names.ttable FILE_LIMIT contents.ttable

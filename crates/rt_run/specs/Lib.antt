@@ -1,4 +1,5 @@
 pub mod Words
 pub mod Fetched
 pub mod Given
+pub mod Naming
 pub mod Answers

@@ -1,11 +1,20 @@
 //! How a run ends, and the status of each end.
 ghost use Rattle.std.specs.Prelude.{◌≡◌};
-ghost use Rattle.rt_run.specs.Answers.{number_of_refusal, number_of_unflattened, number_of_unfetched};
+ghost use Rattle.rt_run.specs.Answers.{number_of_refusal, number_of_unfetched};
 
 use crate::fetching::Unfetched;
-use gds_flat::FlatError;
+use rt_base::{List, Text};
 use rt_desk::DeskError;
 use rt_retarget::Fault;
+
+/// A refusal of the files, with what its line needs.
+#[derive(Drop)]
+pub struct Refusal {
+    /// Why they are refused.
+    pub fault: Fault,
+    /// Of a broken rule the names of its masks in the source's table; of another refusal none.
+    pub names: List<Text>,
+}
 
 /// How a run ends.
 #[derive(Drop)]
@@ -15,7 +24,7 @@ pub enum Answer<'a> {
     /// The words are of no form.
     Usage,
     /// The files are refused.
-    Refused(Fault),
+    Refused(Refusal),
     /// A file wasn't fetched.
     NotFetched(Unfetched<'a>),
     /// OUT wasn't stored.
@@ -34,7 +43,7 @@ impl<'a> Answer<'a> {
         match self {
             Answer::Done => 0,
             Answer::Usage => 2,
-            Answer::Refused(fault) => refusal_number(fault),
+            Answer::Refused(refusal) => refusal_number(&refusal.fault),
             Answer::NotFetched(unfetched) => unfetched_number(&unfetched.error),
             Answer::NotStored => 12,
             Answer::OutOfMemory => 13,
@@ -50,27 +59,17 @@ fn refusal_number(fault: &Fault) -> u8
         Fault::BadStream { .. } => 3,
         Fault::TableToml { .. } | Fault::BadTable { .. } | Fault::TablesDiffer { .. } => 4,
         Fault::SizesToml | Fault::BadSizes { .. } => 5,
-        Fault::Unflattened(error) => unflattened_number(error),
+        Fault::Unsupported { .. }
+        | Fault::NoSuchStructure { .. }
+        | Fault::Cyclic { .. }
+        | Fault::UnmappedLayer { .. }
+        | Fault::ArrayStep { .. }
+        | Fault::CoordinateRange { .. }
+        | Fault::TooDeep => 6,
         Fault::SourceRule { .. } => 7,
         Fault::OutOfMemory => 13,
+        Fault::TooMany { .. } => 14,
         Fault::NotBuilt => 30,
-    }
-}
-
-// The exit status where the source's cell isn't flattened.
-fn unflattened_number(error: &FlatError) -> u8
-    ensures { result ≡ number_of_unflattened error.now }
-{
-    match error {
-        FlatError::Unsupported { .. }
-        | FlatError::NoSuchStructure { .. }
-        | FlatError::Cyclic { .. }
-        | FlatError::UnmappedLayer { .. }
-        | FlatError::ArrayStep { .. }
-        | FlatError::CoordinateRange { .. }
-        | FlatError::TooDeep => 6,
-        FlatError::TooMany { .. } => 14,
-        FlatError::OutOfMemory => 13,
     }
 }
 

@@ -3,6 +3,7 @@
 
 mod answer;
 mod fetching;
+mod naming;
 mod running;
 mod saying;
 mod words;

@@ -2,15 +2,16 @@
 ghost use Rattle.rt_desk.specs.Desk.{OnlySays};
 ghost use Rattle.rt_run.specs.Words.{bytes_of};
 ghost use Rattle.rt_run.specs.Given.{names_in, contents_in};
-ghost use Rattle.rt_run.specs.Answers.{Means, MeansOfNames, MeansOfContents, MeansOfStore, IsRunOf, IsSilent, Ends, line_of, number_of};
+ghost use Rattle.rt_run.specs.Answers.{Means, MeansOfNames, MeansOfContents, MeansOfStore, IsBrokenIn, MeansOfRefusal, IsRunOf, IsSilent, Ends, line_of, number_of};
 
-use crate::answer::Answer;
+use crate::answer::{Answer, Refusal};
 use crate::fetching::{Inputs, fetch_all};
+use crate::naming::names_for;
 use crate::saying::{has_line, say_answer};
 use crate::words::{Retarget, retarget_words};
 use rt_base::List;
 use rt_desk::{Desk, DeskError};
-use rt_retarget::{Outcome, retarget};
+use rt_retarget::{Fault, Outcome, retarget};
 use std::alloc::Global;
 
 /// The exit status of the program.
@@ -26,7 +27,7 @@ const NO_MEMORY: u8 = 13;
 /// cell as OUT. The statuses are 0 where OUT is stored; 2 where the words are of no form; 3 where the source isn't a stream
 /// of the format; 4 where a table isn't valid, or the two aren't of one form; 5 where the sizes file isn't valid; 6 where the
 /// cell isn't flattened; 7 where the source breaks a rule of its own table; 11 where a file wasn't fetched; 12 where OUT
-/// wasn't stored; 13 where there was no memory; 14 where the flat cell has too many rectangles and labels; and 30 where the
+/// wasn't stored; 13 where there was no memory; 14 where the flat cell has too many rectangles and labels, or its layout too many strips; and 30 where the
 /// files ask for what isn't built yet.
 ///
 /// For each status but 0, 12 and 13 it says one line, which names the place and the cause. Where a say fails no more of the
@@ -93,7 +94,7 @@ fn move_cell<'a, D: Desk>(alloc: Global, files: &Inputs, out: &str, desk: &mut D
         &files.sizes,
     ) {
         Ok(outcome) => outcome,
-        Err(fault) => return Answer::Refused(fault),
+        Err(fault) => return refused(alloc, &files.stable, fault),
     };
     let Outcome::Done {
         gds,
@@ -101,6 +102,17 @@ fn move_cell<'a, D: Desk>(alloc: Global, files: &Inputs, out: &str, desk: &mut D
         report: _report,
     } = outcome;
     store_moved(&gds, out, desk)
+}
+
+// The answer where the files are refused: a broken rule is named by its masks.
+fn refused<'a>(alloc: Global, stable: &[u8], fault: Fault) -> Answer<'a>
+    requires { IsBrokenIn stable.now fault }
+    ensures { MeansOfRefusal stable.now fault result }
+{
+    match names_for(alloc, stable, &fault) {
+        Ok(names) => Answer::Refused(Refusal { fault, names }),
+        Err(_) => Answer::OutOfMemory,
+    }
 }
 
 // The answer where the cell was moved: it stores the bytes as `out`.

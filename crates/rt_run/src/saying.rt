@@ -1,18 +1,18 @@
 //! The line of each answer.
 ghost use Rattle.std.specs.Prelude.{◌≡◌, [], MatchBool};
 ghost use Rattle.rt_lines.specs.Said.{SaysLine};
-ghost use Rattle.rt_run.specs.Answers.{line_of, line_of_refusal, line_of_unflattened, odd_word as word_of};
+ghost use Rattle.rt_run.specs.Answers.{line_of, line_of_refusal, odd_word as word_of, what_word as what_of};
 
-use crate::answer::Answer;
-use gds_flat::{FlatError, Odd};
+use crate::answer::{Answer, Refusal};
+use gds_flat::Odd;
 use rt_desk::{Desk, DeskError};
 use rt_lines::{
     BrokenRule, say_array_step, say_bad_stream, say_coordinate_range, say_cyclic,
     say_no_such_structure, say_not_built, say_pieces, say_sizes_fault, say_sizes_not_toml,
     say_source_rule, say_table_fault, say_table_not_toml, say_tables_differ, say_too_deep,
-    say_too_many_items, say_unfetched, say_unmapped_layer, say_unsupported, say_usage,
+    say_too_many, say_unfetched, say_unmapped_layer, say_unsupported, say_usage,
 };
-use rt_retarget::Fault;
+use rt_retarget::{Fault, What};
 
 /// Whether an answer has a line: all have but that OUT was stored, that it wasn't, and want of memory.
 pub fn has_line(answer: &Answer<'_>) -> bool
@@ -20,29 +20,18 @@ pub fn has_line(answer: &Answer<'_>) -> bool
 {
     match answer {
         Answer::Usage => true,
-        Answer::Refused(fault) => refusal_has_line(fault),
+        Answer::Refused(refusal) => refusal_has_line(refusal),
         Answer::NotFetched(unfetched) => unfetched.error != DeskError::OutOfMemory,
         Answer::Done | Answer::NotStored | Answer::OutOfMemory => false,
     }
 }
 
 // Whether a refusal has a line: all have but want of memory.
-fn refusal_has_line(fault: &Fault) -> bool
-    ensures { MatchBool result (line_of_refusal fault.now ≡ [] → ⊥) (line_of_refusal fault.now ≡ []) }
+fn refusal_has_line(refusal: &Refusal) -> bool
+    ensures { MatchBool result (line_of_refusal refusal.now.fault refusal.now.names ≡ [] → ⊥) (line_of_refusal refusal.now.fault refusal.now.names ≡ []) }
 {
-    match fault {
-        Fault::Unflattened(error) => unflattened_has_line(error),
+    match refusal.fault {
         Fault::OutOfMemory => false,
-        _ => true,
-    }
-}
-
-// Whether the reason for which a cell isn't flattened has a line: all have but want of memory.
-fn unflattened_has_line(error: &FlatError) -> bool
-    ensures { MatchBool result (line_of_unflattened error.now ≡ [] → ⊥) (line_of_unflattened error.now ≡ []) }
-{
-    match error {
-        FlatError::OutOfMemory => false,
         _ => true,
     }
 }
@@ -54,26 +43,33 @@ pub fn say_answer<D: Desk>(answer: &Answer<'_>, desk: &mut D) -> Result<(), Desk
 {
     match answer {
         Answer::Usage => say_usage(desk),
-        Answer::Refused(fault) => say_refusal(fault, desk),
+        Answer::Refused(refusal) => say_refusal(refusal, desk),
         Answer::NotFetched(unfetched) => say_unfetched(desk, &unfetched.error, unfetched.name),
         Answer::Done | Answer::NotStored | Answer::OutOfMemory => say_nothing(desk),
     }
 }
 
 // Says the line of a refusal.
-fn say_refusal<D: Desk>(fault: &Fault, desk: &mut D) -> Result<(), DeskError>
-    ensures { SaysLine (D.seen desk.old) (D.seen desk.new) (line_of_refusal fault.now) result }
+fn say_refusal<D: Desk>(refusal: &Refusal, desk: &mut D) -> Result<(), DeskError>
+    ensures { SaysLine (D.seen desk.old) (D.seen desk.new) (line_of_refusal refusal.now.fault refusal.now.names) result }
 {
-    match fault {
+    match &refusal.fault {
         Fault::TableToml { which } => say_table_not_toml(desk, which),
         Fault::BadTable { which, key, cause } => say_table_fault(desk, which, key, cause),
         Fault::TablesDiffer { key } => say_tables_differ(desk, key),
         Fault::SizesToml => say_sizes_not_toml(desk),
         Fault::BadSizes { key, cause } => say_sizes_fault(desk, key, cause),
         Fault::BadStream { offset, cause } => say_bad_stream(desk, *offset, cause),
+        Fault::Unsupported { offset, odd } => say_unsupported(desk, *offset, odd_word(odd)),
+        Fault::NoSuchStructure { name } => say_no_such_structure(desk, name),
+        Fault::Cyclic { names } => say_cyclic(desk, names.as_slice()),
+        Fault::UnmappedLayer { layer, number } => say_unmapped_layer(desk, &(*layer, *number)),
+        Fault::ArrayStep { offset } => say_array_step(desk, *offset),
+        Fault::CoordinateRange { offset } => say_coordinate_range(desk, *offset),
+        Fault::TooDeep => say_too_deep(desk),
+        Fault::TooMany { what, count } => say_too_many(desk, *count, what_word(what)),
         Fault::SourceRule {
             rule,
-            mask,
             p,
             q,
             found,
@@ -82,35 +78,25 @@ fn say_refusal<D: Desk>(fault: &Fault, desk: &mut D) -> Result<(), DeskError>
             desk,
             &BrokenRule {
                 rule: *rule,
-                mask,
+                names: refusal.names.as_slice(),
                 p: *p,
                 q: *q,
                 found: *found,
                 needed: *needed,
             },
         ),
-        Fault::Unflattened(error) => say_unflattened(error, desk),
         Fault::NotBuilt => say_not_built(desk),
         Fault::OutOfMemory => say_nothing(desk),
     }
 }
 
-// Says the line of a cell that isn't flattened.
-fn say_unflattened<D: Desk>(error: &FlatError, desk: &mut D) -> Result<(), DeskError>
-    ensures { SaysLine (D.seen desk.old) (D.seen desk.new) (line_of_unflattened error.now) result }
+// Of what there are too many, as a word.
+fn what_word(what: &What) -> &'static str
+    ensures { result.now ≡ what_of what.now }
 {
-    match error {
-        FlatError::Unsupported { offset, odd } => say_unsupported(desk, *offset, odd_word(odd)),
-        FlatError::NoSuchStructure { name } => say_no_such_structure(desk, name),
-        FlatError::Cyclic { names } => say_cyclic(desk, names.as_slice()),
-        FlatError::UnmappedLayer { layer, number } => {
-            say_unmapped_layer(desk, &(*layer, *number))
-        }
-        FlatError::ArrayStep { offset } => say_array_step(desk, *offset),
-        FlatError::CoordinateRange { offset } => say_coordinate_range(desk, *offset),
-        FlatError::TooMany { count } => say_too_many_items(desk, *count),
-        FlatError::TooDeep => say_too_deep(desk),
-        FlatError::OutOfMemory => say_nothing(desk),
+    match what {
+        What::Items => "items",
+        What::Strips => "strips",
     }
 }
 

@@ -1,2 +1,1 @@
-pub mod Strips
 pub mod Separate

@@ -6,8 +6,8 @@ use mathlib.Core.Logic.{inl, inr}
 use Rattle.rt_cells.proofs.Lines.{first_place, last_place, common_first, common_second}
 use Rattle.rt_rows.specs.declared.row.Var.{Var}
 use Rattle.rt_template.specs.declared.job.Job.{Job}
-use Rattle.rt_template.specs.Strips.{Placed, left_of, bottom_of, top_of}
-use Rattle.rt_template.specs.Standing.{StandsOn, Touch, IsClimbed}
+use Rattle.rt_strips.specs.Placed.{Placed, left_of, bottom_of, top_of}
+use Rattle.rt_strips.specs.Standing.{StandsOn, Touch, IsClimbed}
 use Rattle.rt_template.specs.Separate.{AreSeparateStrips}
 use Rattle.rt_template.specs.Across.{strips_of}
 use Rattle.rt_template.specs.Upwards.{CoversColumns, IsChain}

@@ -9,8 +9,8 @@ use Rattle.rt_rows.specs.declared.name.Name.{Name}
 use Rattle.rt_rows.specs.declared.name.Name.TheVariants.{Lo, Hi, Zero, Top, Wide, Tall, Gap, Run}
 use Rattle.rt_rows.specs.Rows.{MeetsRow, at_least, at_most, beyond}
 use Rattle.rt_template.specs.declared.job.Job.{Job}
-use Rattle.rt_template.specs.Strips.{Placed, placed, mask_of, left_of, right_of}
-use Rattle.rt_template.specs.Standing.{IsStrip, AreOfOneMask, ShareRow, rows_apart, Touch, IsClimbed}
+use Rattle.rt_strips.specs.Placed.{Placed, placed, mask_of, left_of, right_of}
+use Rattle.rt_strips.specs.Standing.{IsStrip, AreOfOneMask, ShareRow, rows_apart, Touch, IsClimbed}
 
 -- the strips of the job
 abbrev pub strips_of : Job → List Placed

@@ -3,8 +3,8 @@ use Rattle.std.specs.Prelude.{◌≡◌, ℕ, ◌<◌, ℤ, pos, ◌+ℤ◌, ◌
 use Rattle.rt_cells.specs.Rectangles.{IsNonempty, ShareCellOrSide}
 use Rattle.rt_tech.specs.declared.table.Tech.{Tech}
 use Rattle.rt_tech.specs.Tech.{width_of, space_of, mask_count}
-use Rattle.rt_template.specs.Strips.{Placed, strip_at, mask_of}
-use Rattle.rt_template.specs.Standing.{IsStrip, AreOfOneMask}
+use Rattle.rt_strips.specs.Placed.{Placed, strip_at, mask_of}
+use Rattle.rt_strips.specs.Standing.{IsStrip, AreOfOneMask}
 
 -- each strip has a cell, and no two of one mask share a cell or a side
 pub record AreSeparateStrips (strips : List Placed) : Type 0 where

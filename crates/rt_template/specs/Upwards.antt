@@ -9,8 +9,8 @@ use Rattle.rt_rows.specs.declared.name.Name.{Name}
 use Rattle.rt_rows.specs.declared.name.Name.TheVariants.{Lo, Hi, Zero, Top, Wide, Tall, Gap, Run}
 use Rattle.rt_rows.specs.Rows.{MeetsRow, at_least, at_most, beyond}
 use Rattle.rt_template.specs.declared.job.Job.{Job}
-use Rattle.rt_template.specs.Strips.{bottom_of, top_of}
-use Rattle.rt_template.specs.Standing.{IsStrip, AreOfOneMask, StandsOn, Touch, IsClimbed}
+use Rattle.rt_strips.specs.Placed.{bottom_of, top_of}
+use Rattle.rt_strips.specs.Standing.{IsStrip, AreOfOneMask, StandsOn, Touch, IsClimbed}
 use Rattle.rt_template.specs.Across.{strips_of, width_wanted, space_wanted}
 
 module _ (job : Job) (columns : Var → ℤ) where

@@ -1,15 +1,7 @@
-//! Strips, and what is to be moved.
-use rt_base::{List, Rect};
+//! What is to be moved.
+use rt_base::List;
+use rt_strips::Strip;
 use rt_tech::Tech;
-
-/// A strip: a rectangle of one mask, in source database units.
-#[derive(Clone, Copy, Debug, PartialEq, Eq, Drop)]
-pub struct Strip {
-    /// The mask's number in the tables, from 0.
-    pub mask: u32,
-    /// The cells of the source that it covers.
-    pub at: Rect,
-}
 
 /// What is to be moved: the strips of the source, numbered from 0, and the two rule tables.
 #[derive(Drop)]

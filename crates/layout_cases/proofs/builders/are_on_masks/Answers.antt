@@ -1,5 +1,4 @@
 use Rattle.std.proofs.lemmas.Bool.{OnTrue_from, OnTrue_at}
-use Rattle.rt_template.specs.Strips.{placed}
 use Rattle.layout_cases.proofs.Few.{on_masks}
 use Rattle.layout_cases.proofs.builders.are_on_masks.Goals as goal
 

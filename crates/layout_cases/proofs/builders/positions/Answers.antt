@@ -1,6 +1,6 @@
 use Rattle.std.proofs.Common.{◌≡◌, length, map, arith}
 use Rattle.std.proofs.lemmas.List.{length-map}
-use Rattle.rt_template.specs.Strips.{placed}
+use Rattle.rt_strips.specs.Placed.{placed}
 use Rattle.layout_cases.proofs.Few.{ten_fit}
 use Rattle.layout_cases.proofs.builders.positions.Goals as goal
 

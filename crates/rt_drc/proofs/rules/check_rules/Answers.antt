@@ -1,10 +1,5 @@
-use Rattle.std.proofs.Common.{map, arith, below_more}
-use Rattle.rt_template.specs.Strips.{placed}
-use Rattle.rt_drc.proofs.Kept.{kept_at}
+use Rattle.rt_drc.proofs.Own.{view_strips}
 use Rattle.rt_drc.proofs.rules.check_rules.Goals as goal
 
-pub loop-m-preserved : goal.loop-m-preserved
-loop-m-preserved c =
-    below_more _ _ c.loop-m.invariant
-    (kept_at c.args.tech.now (map placed c.args.strips.now) c.loop-m.m c.as_slice-mask-items.result.now c.mask-item.result
-    c.as_slice-mask-items.ensures (omega arith) c.mask-item.is c.in_default.ensures.kept)
+pub axes_of-requires : goal.axes_of-requires
+axes_of-requires c = view_strips c.args.tech.now c.args.view.now c.requires.view c.as_slice-strips.result.now c.as_slice-strips.ensures

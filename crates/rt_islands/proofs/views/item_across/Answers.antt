@@ -1,5 +1,5 @@
 use Rattle.std.proofs.Common.{rules, ◌≡◌, get_or, ◌<ℤ◌, ◌≤ℤ◌, pos, negsuc, ◌^◌, ◌-◌, refl, subst, sym}
-use Rattle.rt_template.specs.declared.job.Strip.{Strip}
+use Rattle.rt_strips.specs.declared.listing.Strip.{Strip}
 use Rattle.rt_tech.specs.Tech.{IsLength}
 use Rattle.rt_islands.specs.Items.{IsItem}
 use Rattle.rt_islands.specs.Views.{IsSeenAcross}

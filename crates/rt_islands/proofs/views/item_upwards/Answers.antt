@@ -1,6 +1,6 @@
 use Rattle.std.proofs.Common.{rules, ◌≡◌, get_or, ◌<ℤ◌, refl, subst, sym, arith}
 use Rattle.rt_base.specs.Plane.{IsSide}
-use Rattle.rt_template.specs.declared.job.Strip.{Strip}
+use Rattle.rt_strips.specs.declared.listing.Strip.{Strip}
 use Rattle.rt_tech.specs.Tech.{IsLength}
 use Rattle.rt_path.specs.Least.{value_at}
 use Rattle.rt_islands.specs.Items.{IsItem}

@@ -1,0 +1,4 @@
+mod Merging
+mod Tops
+mod Upwards
+mod Passing
