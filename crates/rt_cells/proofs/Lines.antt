@@ -80,24 +80,3 @@ nearest_within low high other h = within _ _ _ (omega (arith, ints, clamps)) (om
 pub nearest_between : (low high low' high' : ℤ) → low <ℤ high → low' <ℤ high'
     → gap_of low high low' high' ≡ between (nearest_place low high low') (nearest_place low' high' low)
 nearest_between low high low' high' h k = omega (arith, ints, clamps)
-
--- the nearest places of two intervals that meet are one place
-pub nearest_meet : (low high low' high' : ℤ) → low <ℤ high → low' <ℤ high' → int_max low low' <ℤ int_min high high'
-    → nearest_place low' high' low ≡ nearest_place low high low'
-nearest_meet low high low' high' h k m = omega (arith, ints, clamps)
-
-nearest_after : (low high low' high' : ℤ) → low <ℤ high → low' <ℤ high' → int_max low low' ≤ℤ int_min high high' → int_min high high' ≤ℤ int_max low low' → low ≤ℤ low'
-    → nearest_place low' high' low ≡ nearest_place low high low' +ℤ pos 1
-nearest_after low high low' high' h k m n l = omega (arith, ints, clamps)
-
-nearest_before : (low high low' high' : ℤ) → low <ℤ high → low' <ℤ high' → int_max low low' ≤ℤ int_min high high' → int_min high high' ≤ℤ int_max low low' → low' <ℤ low
-    → nearest_place low high low' ≡ nearest_place low' high' low +ℤ pos 1
-nearest_before low high low' high' h k m n l = omega (arith, ints, clamps)
-
--- the nearest places of two intervals that meet or adjoin are one place or next to each other
-pub nearest_touch : (low high low' high' : ℤ) → low <ℤ high → low' <ℤ high' → int_max low low' ≤ℤ int_min high high'
-    → (nearest_place low' high' low ≡ nearest_place low high low') ⊎ Adjacent (nearest_place low high low') (nearest_place low' high' low)
-nearest_touch low high low' high' h k m =
-    by_lt_z (int_max low low') (int_min high high')
-    (λ s. inl (nearest_meet low high low' high' h k s))
-    (λ s. by_lt_z low' low (λ l. inr (inr (nearest_before low high low' high' h k m s l))) (λ l. inr (inl (nearest_after low high low' high' h k m s l))))

@@ -1,9 +1,9 @@
 -- Cells of a rectangle are joined, and what shares a cell or a side is shared with.
-use Rattle.std.proofs.Common.{◌≡◌, ℤ, ◌⊎◌, refl, sym}
+use Rattle.std.proofs.Common.{◌≡◌, ℤ, ◌⊎◌, refl}
 use mathlib.Core.Logic.{inl, inr}
-use Rattle.rt_cells.specs.Cells.{Adjacent, AreNext, Joined}
+use Rattle.rt_cells.specs.Cells.{Adjacent, Joined}
 use Rattle.rt_cells.specs.Cells.Joined.{here, onward}
-use Rattle.rt_cells.specs.Rectangles.{Rectangle, Holds, ShareCellOrSide}
+use Rattle.rt_cells.specs.Rectangles.{Rectangle, Holds}
 use Rattle.rt_cells.proofs.Lines.{passed_along}
 
 -- two cells of a rectangle are joined wherever its cells are covered
@@ -21,12 +21,3 @@ joined_inside cells r covered x y u v h k =
 adjacent_back : (p q : ℤ) → Adjacent p q → Adjacent q p
 adjacent_back p q (inl e) = inr e
 adjacent_back p q (inr e) = inl e
-
-next_back : (x y u v : ℤ) → AreNext x y u v → AreNext u v x y
-next_back x y u v (inl e) = inl (sym e.0, sym e.1)
-next_back x y u v (inr (inl e)) = inr (inl (adjacent_back x u e.0, sym e.1))
-next_back x y u v (inr (inr e)) = inr (inr (sym e.0, adjacent_back y v e.1))
-
--- what shares a cell or a side is shared with
-pub shares_back : (a b : Rectangle) → ShareCellOrSide a b → ShareCellOrSide b a
-shares_back a b s = (s.2, s.3, s.0, s.1, s.5, s.4, next_back s.0 s.1 s.2 s.3 s.6)
