@@ -1,6 +1,2 @@
-pub mod Valid
-pub mod Drawn
-pub mod Apart
-pub mod Carrying
-pub mod Listing
-pub mod Extents
+pub mod Sides
+pub mod Drawings

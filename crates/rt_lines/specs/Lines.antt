@@ -2,6 +2,8 @@
 use Rattle.std.specs.Prelude.{ℕ, ℤ, List, [], ◌∷◌, ◌++◌, codes, decimal}
 use Rattle.std.specs.List.{flat_map}
 use Rattle.std.specs.Fmt.{signed_decimal}
+use Rattle.rt_base.specs.declared.plane.Axis.{Axis}
+use Rattle.rt_base.specs.declared.plane.Axis.TheVariants.{Across, Upwards}
 use Rattle.rt_base.specs.declared.plane.Cell.{Cell}
 use Rattle.gds_grammar.specs.declared.cause.Cause.{Cause}
 use Rattle.gds_grammar.specs.declared.cause.Cause.TheVariants.{Short, OddLength, LengthBelow4, UnknownType, WrongData, Unexpected, BadText, NotClosed, DuplicateName}
@@ -150,3 +152,8 @@ too_many_line count what = line (codes "too many: " ∷ decimal count ∷ codes 
 -- the files ask for what isn't built yet
 abbrev pub not_built_line : List ℕ
 not_built_line = line (codes "not built" ∷ [])
+
+-- no positions meet the template of the axis
+abbrev pub infeasible_line : Axis → List ℕ
+infeasible_line Across = line (codes "infeasible across" ∷ [])
+infeasible_line Upwards = line (codes "infeasible upwards" ∷ [])

@@ -8,7 +8,7 @@ mod tables;
 mod words;
 
 pub use pieces::{Piece, say_pieces};
-pub use request::{say_not_built, say_unfetched, say_usage};
+pub use request::{say_infeasible, say_not_built, say_unfetched, say_usage};
 pub use source::{
     BrokenRule, say_array_step, say_bad_stream, say_coordinate_range, say_cyclic,
     say_no_such_structure, say_source_rule, say_too_deep, say_too_many, say_unmapped_layer,

@@ -1,9 +1,10 @@
 //! The lines on what was asked for: words of no form, a file that wasn't fetched, what isn't built yet.
 ghost use Rattle.std.specs.Prelude.{[], ◌∷◌};
 ghost use Rattle.rt_lines.specs.Said.{SaysLine};
-ghost use Rattle.rt_lines.specs.Lines.{line, usage_line, unfetched_line, not_built_line};
+ghost use Rattle.rt_lines.specs.Lines.{line, usage_line, unfetched_line, not_built_line, infeasible_line};
 
 use crate::pieces::{Piece, say_pieces};
+use rt_base::Axis;
 use rt_desk::{Desk, DeskError};
 
 /// Says the line for words that are of none of the forms. Errors are those of `say_pieces`.
@@ -26,6 +27,19 @@ pub fn say_not_built<D: Desk>(desk: &mut D) -> Result<(), DeskError>
     ensures { SaysLine (D.seen desk.old) (D.seen desk.new) not_built_line result }
 {
     say_pieces(desk, &[Piece::Word("not built"), Piece::Word("\n")])
+}
+
+/// Says `infeasible across` or `infeasible upwards`: no positions meet the template of the axis. Errors are those of `say_pieces`.
+pub fn say_infeasible<D: Desk>(desk: &mut D, axis: Axis) -> Result<(), DeskError>
+    ensures { SaysLine (D.seen desk.old) (D.seen desk.new) (infeasible_line axis) result }
+{
+    match axis {
+        Axis::Across => say_pieces(desk, &[Piece::Word("infeasible across"), Piece::Word("\n")]),
+        Axis::Upwards => say_pieces(
+            desk,
+            &[Piece::Word("infeasible upwards"), Piece::Word("\n")],
+        ),
+    }
 }
 
 // Says a word and a name behind it.

@@ -1,2 +1,12 @@
-pub mod Raising
-pub mod WaysBack
+pub mod Chains
+pub mod Gets
+pub mod Logs
+pub mod Turns
+pub mod Numbers
+pub mod Backwards
+pub mod Ends
+pub mod Places
+pub mod Named
+pub mod Bounded
+pub mod Answered
+pub mod Callers

@@ -1,2 +1,6 @@
-pub mod Least
-pub mod Rounds
+pub mod Longest
+pub mod Raises
+pub mod Chains
+pub mod WaysBack
+pub mod Steps
+pub mod Solved

@@ -1,13 +1,17 @@
-//! The least values that meet difference rows: each row asks that one value is beyond another by a number at least.
+//! The least positions along an axis that meet rows of differences, each of which asks that one side is beyond another by a number at least,
+//! with a proof that the extent is least, or that no positions meet the rows.
 #![tactic(auto)]
 
-mod circle;
-mod difference;
+mod along_axis;
+mod event;
+mod found;
 mod laws;
-mod least;
-mod reach;
+mod path_error;
+mod raises;
+mod rounds;
+mod steps;
+mod ways_back;
 
-pub use difference::Difference;
-pub use laws::{all_met_solves, beyond_is_not_within, least_solution_is_one, solution_meets_all};
-pub use least::least_values;
-pub use reach::are_in_reach;
+pub use along_axis::longest;
+pub use laws::{bounded_rows_are_above, refuted_rows_have_no_values};
+pub use path_error::PathError;

@@ -1,5 +1,5 @@
 -- From the parts of a run to the stages of the files, and to what an answer says of them.
-use Rattle.std.proofs.Common.{◌≡◌, ℕ, ◌≤◌, ℤ, pos, List, [], None, length, map, inr, subst, arith}
+use Rattle.std.proofs.Common.{◌≡◌, ◌≢◌, ℕ, ◌≤◌, ℤ, pos, List, [], None, length, map, inr, sym, ◌∙◌, arith}
 use Rattle.std.proofs.lemmas.List.{length-map}
 use Rattle.gds_flat.specs.declared.error.FlatError.{FlatError}
 use Rattle.gds_flat.specs.declared.error.FlatError.TheVariants as flat
@@ -12,7 +12,6 @@ use Rattle.rt_base.specs.declared.plane.Cell.{Cell}
 use Rattle.rt_drc.specs.Rows.{cells_of}
 use Rattle.rt_keys.specs.declared.error.TableError.{TableError}
 use Rattle.rt_keys.specs.declared.error.TableError.TheVariants as table
-use Rattle.rt_layout.specs.declared.layout.Label.{Label}
 use Rattle.rt_layout.specs.declared.layout.Layout.{Layout}
 use Rattle.rt_layout.specs.Covering.{MaskCovers}
 use Rattle.rt_nets.specs.declared.shapes.View.{View}
@@ -22,20 +21,18 @@ use Rattle.rt_rules.proofs.Alike.{breaks_none_alike, first_breach_alike}
 use Rattle.rt_sizes.specs.Refusals.{RefusesSizes}
 use Rattle.rt_sizes.specs.Wishes.{wishes_fault}
 use Rattle.rt_strips.specs.declared.listing.Strip.{Strip}
-use Rattle.rt_strips.specs.Placed.{Placed, placed}
+use Rattle.rt_strips.specs.Placed.{placed}
 use Rattle.rt_tables.proofs.Alike.{same_mask_count}
 use Rattle.rt_tables.proofs.Valid.{valid_table}
 use Rattle.rt_tech.specs.declared.rules.RuleName.{RuleName}
-use Rattle.rt_tech.specs.declared.table.Tech.{Tech}
 use Rattle.rt_tech.specs.declared.table.Which.TheVariants.{Source, Target}
 use Rattle.rt_tech.proofs.Measured.{measured}
 use Rattle.rt_retarget.specs.declared.answer.Fault.{Fault}
 use Rattle.rt_retarget.specs.declared.answer.Fault.TheVariants.{NotBuilt, SourceRule}
 use Rattle.rt_retarget.specs.declared.inputs.Inputs.{Inputs}
 use Rattle.rt_retarget.specs.declared.source.TheConstants.{STRIP_LIMIT}
-use Rattle.rt_retarget.specs.Files.{Given, AreBuilt}
-use Rattle.rt_retarget.specs.Stages.{AreRead, IsParsed, IsLaid, IsStripped, IsSound, IsThin, HasMore, IsTaken, IsWished}
-use Rattle.rt_retarget.specs.Answers.{IsFaultOf}
+use Rattle.rt_retarget.specs.Files.{Given}
+use Rattle.rt_retarget.specs.Stages.{AreRead, IsParsed, IsLaid, IsStripped, IsSound, IsTaken, IsWished}
 use Rattle.rt_retarget.specs.Jobs.{AreMatched, IsFlatRefusal, IsTableRefusal, IsFaultOfParsed, IsFaultOfTaken, IsFaultOfView, IsSoundView, IsCheckedCell, IsReadSource}
 use Rattle.rt_retarget.proofs.Cells.{IsCellOf, reached_cell, are_drawable}
 use Rattle.rt_retarget.proofs.Stripped.{covered_alike}
@@ -105,7 +102,7 @@ rule_fault inputs view rule p q found needed first files library layout is strip
   broken = broken_layout inputs layout view is rule p q found needed first;
 }
 
-few_placed : (strips : List Strip) → length strips ≤ STRIP_LIMIT → length (map placed strips) ≤ STRIP_LIMIT
+pub few_placed : (strips : List Strip) → length strips ≤ STRIP_LIMIT → length (map placed strips) ≤ STRIP_LIMIT
 few_placed strips few = omega (arith, few, length-map strips placed)
 
 -- the strips of a view that is one of the layout, and few
@@ -120,56 +117,56 @@ pub sound : (files : Given) (inputs : Inputs) (library : Library) (layout : Layo
 sound files inputs library layout view laid is =
     record { stripped = stripped files inputs library layout view laid is.is_view is.few; clean = is.clean }
 
--- what isn't moved yet is a refusal of the files
-pub more_fault : (inputs : Inputs) (library : Library) (layout : Layout) (view : View)
+-- a label is a refusal of the files
+pub label_fault : (inputs : Inputs) (library : Library) (layout : Layout) (view : View)
     → IsFlattened library.structures inputs.asked.cell inputs.tables.source layout → IsSoundView inputs layout view
-    → HasMore inputs.tables.target view.labels (map placed view.strips.list) → IsFaultOfParsed inputs library NotBuilt
-more_fault inputs library layout view flattened is more files parsed = inr (record {
+    → view.labels ≢ [] → IsFaultOfParsed inputs library NotBuilt
+label_fault inputs library layout view flattened is some files parsed = inr (record {
   inputs = inputs;
   library = library;
   layout = layout;
   strips = map placed view.strips.list;
   sound = sound files inputs library layout view (record { parsed = parsed; flattened = flattened }) is;
-  more = subst (λ (labels : List Label). HasMore inputs.tables.target labels (map placed view.strips.list)) is.is_view.labels more;
+  some_label = λ none. some (is.is_view.labels ∙ none);
 })
 
--- what is moved is taken
+-- a layout without labels is taken
 pub taken : (files : Given) (inputs : Inputs) (library : Library) (layout : Layout) (view : View) → IsParsed files inputs library
     → IsFlattened library.structures inputs.asked.cell inputs.tables.source layout → IsSoundView inputs layout view
-    → IsThin inputs.tables.target view.labels (map placed view.strips.list) → IsTaken files inputs library layout (map placed view.strips.list)
-taken files inputs library layout view parsed flattened is thin = record {
+    → view.labels ≡ [] → IsTaken files inputs library layout (map placed view.strips.list)
+taken files inputs library layout view parsed flattened is none = record {
   sound = sound files inputs library layout view (record { parsed = parsed; flattened = flattened }) is;
-  thin = subst (λ (labels : List Label). IsThin inputs.tables.target labels (map placed view.strips.list)) is.is_view.labels thin;
+  no_labels = sym is.is_view.labels ∙ none;
 }
 
 -- the cell that is checked
 pub checked : (inputs : Inputs) (library : Library) (layout : Layout) (view : View)
     → IsFlattened library.structures inputs.asked.cell inputs.tables.source layout → IsSoundView inputs layout view
-    → IsThin inputs.tables.target view.labels (map placed view.strips.list) → wishes_fault inputs.asked [] ≡ None → IsCheckedCell inputs library view.strips.list
-checked inputs library layout view flattened is thin none = record {
+    → view.labels ≡ [] → wishes_fault inputs.asked [] ≡ None → IsCheckedCell inputs library view
+checked inputs library layout view flattened is no_labels none = record {
   layout = layout;
   flattened = flattened;
-  are_strips = is.is_view.strips.strips_are;
+  is_view = is.is_view;
   few = is.few;
   clean = is.clean;
-  thin = subst (λ (labels : List Label). IsThin inputs.tables.target labels (map placed view.strips.list)) is.is_view.labels thin;
+  no_labels = sym is.is_view.labels ∙ no_labels;
   no_strays = none;
 }
 
 -- a source that is read, of files that are read, has passed all stages
-pub wished : (files : Given) (inputs : Inputs) (library : Library) (strips : List Strip) → AreRead files inputs → (is : IsReadSource files.source inputs library strips)
-    → IsWished files inputs library is.cell.layout (map placed strips)
-wished files inputs library strips read is = record {
+pub wished : (files : Given) (inputs : Inputs) (library : Library) (view : View) → AreRead files inputs → (is : IsReadSource files.source inputs library view)
+    → IsWished files inputs library is.cell.layout (map placed view.strips.list)
+wished files inputs library view read is = record {
   taken = record {
     sound = record {
       stripped = record {
         laid = record { parsed = record { read = read; built = is.built; stream = is.stream }; flattened = is.cell.flattened };
-        are_strips = is.cell.are_strips;
-        few = few_placed strips is.cell.few;
+        are_strips = is.cell.is_view.strips.strips_are;
+        few = few_placed view.strips.list is.cell.few;
       };
       clean = is.cell.clean;
     };
-    thin = is.cell.thin;
+    no_labels = is.cell.no_labels;
   };
   no_strays = is.cell.no_strays;
 }
@@ -179,7 +176,7 @@ pub library_short : (source : List ℕ) (library : Library) → Stream source li
 library_short source library stream = (stream_is_lawful source library stream).short
 
 -- the cell that is flattened is one of the library's: its name isn't empty and fits a record
-pub cell_of : (source : List ℕ) (inputs : Inputs) (library : Library) (strips : List Strip) → IsReadSource source inputs library strips → IsCellOf inputs.asked.cell
-cell_of source inputs library strips is =
+pub cell_of : (source : List ℕ) (inputs : Inputs) (library : Library) (view : View) → IsReadSource source inputs library view → IsCellOf inputs.asked.cell
+cell_of source inputs library view is =
     let sound = is.cell.flattened.accepted.sound in
     reached_cell library.structures inputs.asked.cell sound.order (stream_is_lawful source library is.stream).structures sound.reached

@@ -1,14 +1,8 @@
 -- Files are read in one way, so what is refused at a stage isn't at the next one.
-use Rattle.std.proofs.Common.{◌≡◌, ◌≢◌, ℕ, suc, ◌<◌, ◌≤◌, ℤ, pos, ◌↔◌, List, [], length, map, None, refl, subst, ap, sym, ◌∙◌, inl, inr, arith}
-use Rattle.std.proofs.lemmas.Int.{ints}
-use Rattle.rt_base.specs.Plane.{area}
-use Rattle.rt_base.specs.declared.plane.Cell.{Cell}
+use Rattle.std.proofs.Common.{◌≡◌, ℕ, suc, ℤ, pos, List, [], length, None, refl, subst, ap, sym, ◌∙◌, inl, inr, arith}
 use Rattle.rt_cells.specs.Rectangles.{Rectangle, Covers}
-use Rattle.rt_layout.specs.declared.layout.Label.{Label}
 use Rattle.rt_layout.specs.declared.layout.Layout.{Layout}
-use Rattle.rt_layout.specs.Covering.{MaskCovers, rectangles_of}
-use Rattle.gds_flat.specs.declared.error.FlatError.{FlatError}
-use Rattle.gds_flat.specs.declared.error.FlatError.TheVariants as flat
+use Rattle.rt_layout.specs.Covering.{MaskCovers}
 use Rattle.gds_flat.specs.Laws.{AreAlike}
 use Rattle.gds_flat.proofs.Flattening.{one_flat}
 use Rattle.gds_flat_laws.proofs.Refusals.{not_refused as flattened_not_refused}
@@ -21,11 +15,10 @@ use Rattle.rt_rules.proofs.First.{first_breaks}
 use Rattle.rt_sizes.specs.Refusals.{RefusesSizes}
 use Rattle.rt_sizes.specs.SizesFile.{sizes_fault}
 use Rattle.rt_sizes.specs.Wishes.{wishes_fault}
-use Rattle.rt_strips.specs.Channels.{IsChannelCell, IsPiece, IsInChannel, IsStripCell, AreLayoutStrips}
+use Rattle.rt_strips.specs.Channels.{IsChannelCell, IsStripCell, AreLayoutStrips}
 use Rattle.rt_strips.specs.Placed.{Placed}
 use Rattle.rt_strips.proofs.OneList.{strips_are_one_list}
 use Rattle.rt_tables.proofs.Valid.{same_table, not_both}
-use Rattle.rt_tech.specs.declared.rules.RuleName.{RuleName}
 use Rattle.rt_tech.specs.declared.table.TableCause.{TableCause}
 use Rattle.rt_tech.specs.declared.table.Tech.{Tech}
 use Rattle.rt_tech.specs.declared.table.Which.TheVariants.{Source, Target}
@@ -33,8 +26,8 @@ use Rattle.rt_tech.specs.declared.sizes.Sizes.{Sizes}
 use Rattle.rt_tech.specs.Tech.{mask_count}
 use Rattle.rt_retarget.specs.declared.inputs.Inputs.{Inputs}
 use Rattle.rt_retarget.specs.Files.{Given, AreBuilt}
-use Rattle.rt_retarget.specs.Stages.{AreRead, IsParsed, IsLaid, IsStripped, IsSound, IsThin, HasMore, IsTaken}
-use Rattle.rt_retarget.specs.Ladder.{NoTableIsntRead, BadTableIsntRead, TwoFormsArentRead, NoSizesArentRead, BadSizesArentRead, MoreIsntParsed, NoStreamIsntParsed, UnflattenedIsntLaid, TooManyIsntStripped, UnsoundIsntSound, MoreIsntTaken, StraysArentWished}
+use Rattle.rt_retarget.specs.Stages.{AreRead, IsParsed, IsLaid, IsStripped}
+use Rattle.rt_retarget.specs.Ladder.{NoTableIsntRead, BadTableIsntRead, TwoFormsArentRead, NoSizesArentRead, BadSizesArentRead, MoreIsntParsed, NoStreamIsntParsed, UnflattenedIsntLaid, TooManyIsntStripped, UnsoundIsntSound, LabelsArentTaken, StraysArentWished}
 use Rattle.rt_retarget.proofs.Readings.{one_reading}
 
 -- no table
@@ -208,24 +201,13 @@ unsound_sound files inputs library layout strips rule p q found needed is sound 
     first_breaks (pos 1) is.inputs.tables.source (MaskCovers is.layout) rule p q found needed is.broken
     (subst (λ (i : Inputs). BreaksNoRule (pos 1) i.tables.source (MaskCovers is.layout)) (sym e) none)
 
-more_or_thin : (target : Tech) (labels : List Label) (strips : List Placed) → HasMore target labels strips → IsThin target labels strips → ⊥
-more_or_thin target labels strips (inl some) thin = some thin.no_labels
-more_or_thin target labels strips (inr (inl (i, j, stands))) thin = thin.none_stands i j stands
-more_or_thin target labels strips (inr (inr wide)) thin = let fits = thin.side_by_side in omega (arith, ints, wide, fits)
-
-pub more_taken : MoreIsntTaken
-more_taken files inputs library layout strips is taken =
+pub labels_taken : LabelsArentTaken
+labels_taken files inputs library layout strips is taken =
     let sound = taken.sound in
     let parsed = sound.stripped.laid.parsed in
-    let stripped = same_stripped files inputs library parsed is.inputs is.library is.layout is.strips is.sound.stripped in
-    let e = same_read files inputs library parsed is.inputs is.sound.stripped.laid.parsed.read in
-    let alike = same_layout files inputs library is.layout layout stripped.laid sound.stripped.laid in
-    let strips_same = same_strips files inputs library is.layout layout is.strips strips stripped.laid sound.stripped.laid stripped.are_strips sound.stripped.are_strips in
-    more_or_thin inputs.tables.target layout.labels strips
-    (subst (λ (i : Inputs). HasMore i.tables.target layout.labels strips) e
-    (subst (λ (labels : List Label). HasMore is.inputs.tables.target labels strips) alike.labels
-    (subst (λ (s : List Placed). HasMore is.inputs.tables.target is.layout.labels s) strips_same is.more)))
-    taken.thin
+    let laid = same_laid files inputs library parsed is.inputs is.library is.layout is.sound.stripped.laid in
+    let alike = same_layout files inputs library is.layout layout laid sound.stripped.laid in
+    is.some_label (alike.labels ∙ taken.no_labels)
 
 -- sizes without a fault aren't refused
 not_refused : (asked : Sizes) (key : List ℕ) (cause : TableCause) → RefusesSizes (wishes_fault asked []) (table.BadSizes key cause) → wishes_fault asked [] ≡ None → ⊥

@@ -16,7 +16,7 @@ use Rattle.rt_rows.specs.declared.row.Var.{Var}
 use Rattle.rt_strips.specs.Placed.{Placed, mask_of}
 use Rattle.rt_template.specs.Drawing.{drawn_area, drawn_from}
 use Rattle.rt_carry.specs.Shapes.{shape_of, layer_of_mask, datatype_of_mask}
-use Rattle.rt_retarget.specs.Written.{IsMaskOfPair, IsPolygonOf, IsWrittenAs}
+use Rattle.rt_written.specs.Written.{IsMaskOfPair, IsPolygonOf, IsWrittenAs}
 
 no_labels : (labels : List Element) (texts : List Note) → texts ≡ [] → AllZip IsLabelOf labels texts → labels ≡ []
 no_labels [] texts e a = refl

@@ -1,4 +1,3 @@
-pub mod Extents
 pub mod Cells
 pub mod Readings
 pub mod Flattened
@@ -6,4 +5,3 @@ pub mod Stripped
 pub mod Assembled
 pub mod Excluded
 pub mod Moving
-pub mod Standing

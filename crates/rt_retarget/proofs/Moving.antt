@@ -1,67 +1,66 @@
--- From the job of the files, and what is written for it, to the relation of the headline.
-use Rattle.std.proofs.Common.{◌≡◌, ℕ, ◌+◌, ◌<◌, ◌≤◌, ℤ, pos, ◌+ℤ◌, ◌<ℤ◌, ◌≤ℤ◌, List, length, map, ap, ◌∙◌, sym, subst, arith}
-use Rattle.std.proofs.lemmas.Int.{ints}
-use Rattle.std.proofs.lemmas.List.{length-map}
+-- From the job of the files, and what is written for it, to the relation of the headline; or to that it has no positions.
+use Rattle.std.proofs.Common.{◌≡◌, ℕ, ◌+◌, ◌<◌, ◌≤◌, ◌^◌, List, [], length, map, ap, ◌∙◌, sym, subst, arith}
+use Rattle.rt_base.specs.declared.plane.Axis.{Axis}
 use Rattle.rt_cells.specs.Rectangles.{IsNonempty}
-use Rattle.rt_cells.proofs.Times.{times_lt}
 use Rattle.gds_stream.specs.declared.library.Library.{Library}
-use Rattle.rt_rows.specs.declared.row.Var.{Var}
-use Rattle.rt_rows.specs.declared.row.Var.TheVariants.{L, R, B, T}
-use Rattle.rt_rows.specs.declared.name.Name.TheVariants.{Wide, Tall}
-use Rattle.rt_rows.proofs.Rows.{beyond_met}
-use Rattle.rt_strips.specs.declared.listing.Strip.{Strip}
-use Rattle.rt_strips.specs.Channels.{IsStripCell}
-use Rattle.rt_strips.specs.Placed.{placed, mask_of}
-use Rattle.rt_strips.specs.Standing.{IsStrip}
-use Rattle.rt_tech.specs.Tech.{mask_count, IsMeasured}
-use Rattle.rt_template.specs.declared.job.Job.{Job}
-use Rattle.rt_template.specs.Across.{strips_of, width_wanted, MeetsAcross}
-use Rattle.rt_template.specs.Upwards.{MeetsUpwards}
+use Rattle.rt_nets.specs.declared.job.Job.{Job}
+use Rattle.rt_nets.specs.Job.{strips_of, IsJob, IsJobOf}
+use Rattle.rt_strips.specs.Placed.{placed}
+use Rattle.rt_strips.specs.Table.{AreClimbsOf}
+use Rattle.rt_place.specs.Placing.{NoneMeetOf}
 use Rattle.rt_template.specs.Drawing.{drawn_area}
-use Rattle.rt_carry.proofs.Valid.{width_positive}
-use Rattle.rt_carry.proofs.Carrying.{drawings_keep}
-use Rattle.rt_retarget.specs.declared.inputs.Inputs.{Inputs}
+use Rattle.rt_moved.proofs.Metals.{on_target}
+use Rattle.rt_moved.proofs.Extents.{moved_fits}
+use Rattle.rt_moved.proofs.Clean.{moved_breaks_no_rule}
+use Rattle.rt_written.specs.Written.{IsWrittenAs}
+use Rattle.rt_written.proofs.ReadBack.{stream_reads_back, layout_keeps_rules}
 use Rattle.rt_retarget.specs.declared.source.TheConstants.{STRIP_LIMIT}
 use Rattle.rt_retarget.specs.Files.{Given}
-use Rattle.rt_retarget.specs.Stages.{AreRead}
-use Rattle.rt_retarget.specs.Written.{IsWrittenAs}
-use Rattle.rt_retarget.specs.Moved.{Moved, IsMovedOut, drawing_of}
-use Rattle.rt_retarget.specs.Answers.{IsDone}
-use Rattle.rt_retarget.specs.Jobs.{AreMatched, IsThinJob, IsReadSource, IsWrittenFor}
-use Rattle.rt_retarget.proofs.Assembled.{wished}
+use Rattle.rt_retarget.specs.Moved.{IsMovedJob, Moved, IsMovedOut, drawing_of}
+use Rattle.rt_retarget.specs.Answers.{IsDone, IsInfeasible}
+use Rattle.rt_retarget.specs.Jobs.{AreMatched, IsReadSource, IsJobOfFiles, IsWrittenFor, inputs_of}
+use Rattle.rt_tech.specs.declared.sizes.Sizes.{Sizes}
+use Rattle.rt_retarget.specs.declared.inputs.Inputs.{Inputs}
+use Rattle.rt_retarget.proofs.Assembled.{wished, few_placed}
 use Rattle.rt_retarget.proofs.Flattened.{drawn_layout, drawables}
-use Rattle.rt_retarget.proofs.Stripped.{on_masks, separate}
-
-past : (low by high : ℤ) → pos 1 ≤ℤ by → (low +ℤ by) ≤ℤ high → low <ℤ high
-past low by high h k = omega (arith, ints)
-
-one_at_least : pos 1 ≤ℤ pos 1
-one_at_least = omega (arith, ints)
 
 from_zero : (i : ℕ) → i ≡ 0 + i
 from_zero i = omega arith
 
--- each drawn rectangle has a cell
-drawn_nonempty : (job : Job) (at : Var → ℤ) → IsMeasured job.target → MeetsAcross job at → MeetsUpwards job at at → (i : ℕ) → IsStrip (strips_of job) i
-    → IsNonempty (drawn_area job.target.grid at i)
-drawn_nonempty job at valid across upwards i h = record {
-  across = times_lt job.target.grid (at (L i)) (at (R i)) valid.grid.low
-      (past (at (L i)) (width_wanted job i) (at (R i)) (width_positive job.target valid _) (beyond_met at (L i) (R i) (width_wanted job i) (across.meets (Wide i) h)));
-  upwards = times_lt job.target.grid (at (B i)) (at (T i)) valid.grid.low
-      (past (at (B i)) (pos 1) (at (T i)) one_at_least (beyond_met at (B i) (T i) (pos 1) (upwards.meets (Tall i) h)));
+few_numbered : (n : ℕ) → n ≤ STRIP_LIMIT → n < 2 ^ 32
+few_numbered n h = omega (arith, h)
+
+-- the job of a source that was read
+pub is_job : (source : List ℕ) (inputs : Inputs) (library : Library) (job : Job) → AreMatched inputs.tables.source inputs.tables.target
+    → (is : IsReadSource source inputs library job.view) → AreClimbsOf (strips_of job) job.climbs → job.source ≡ inputs.tables.source
+    → job.target ≡ inputs.tables.target → job.wishes ≡ [] → job.pairs ≡ [] → IsJobOf is.cell.layout job
+is_job source inputs library job matched is climbs s t wishes pairs = record {
+  view = rw s is.cell.is_view;
+  few = few_numbered _ is.cell.few;
+  climbs = climbs;
+  source = rw s matched.source;
+  target = rw t matched.target;
+  same_masks = rw (s, t) (sym matched.same_masks);
+  metals = rw s is.built.metals;
+  wishes = ap length wishes ∙ sym (ap length is.cell.is_view.channels);
+  no_pairs = pairs;
 }
 
--- what is written for a job is its drawing, clean
-moved_out : (job : Job) (library : Library) (cell : List ℕ) (bytes : List ℕ) → IsThinJob job → (written : IsWrittenFor job library.name cell bytes)
+-- what is written for a job is its drawing, read back, and clean
+moved_out : (job : Job) (library : Library) (cell : List ℕ) (bytes : List ℕ) → IsJob job → (written : IsWrittenFor job library.name cell bytes)
     → IsMovedOut bytes cell library job written.drawn.at
-moved_out job library cell bytes thin w =
+moved_out job library cell bytes is w =
     let at = w.drawn.at in
     let drawing = w.drawn.drawing in
-    let meets_across = w.drawn.across.meets in
-    let meets_upwards = w.drawn.upwards.meets in
+    let across = w.drawn.across.extent.meets in
+    let upwards = w.drawn.upwards.extent.meets in
+    let fits = moved_fits job is at across upwards in
     let drawable = drawables job.target job.target.grid at 0 (strips_of job)
-    (λ i h. thin.on_masks.masks i (record { below_count = h }))
-    (λ i h. subst (λ (k : ℕ). IsNonempty (drawn_area job.target.grid at k)) (from_zero i) (drawn_nonempty job at thin.target meets_across meets_upwards i (record { below_count = h }))) in
+    (λ i h. on_target job is i (record { below_count = h }))
+    (λ i h. subst (λ (k : ℕ). IsNonempty (drawn_area job.target.grid at k)) (from_zero i) (fits.strips i (record { below_count = h })).nonempty) in
+    let polygons = subst (λ (name : List ℕ). IsWrittenAs job.target w.library name (drawing_of job at)) drawing.named
+    (drawn_layout job.target w.library w.flat (drawing_of job at) w.one_cell drawing.no_texts drawing.shapes drawable) in
+    let back = stream_reads_back job.target bytes w.library cell (drawing_of job at) is.job_of.target w.stream polygons in
     record {
       cell = w.flat;
       drawing = drawing;
@@ -70,64 +69,61 @@ moved_out job library cell bytes thin w =
       stream = w.stream;
       library_name = ap (λ (l : Library). l.name) w.one_cell.is_library ∙ drawing.in_library;
       units = ap (λ (l : Library). l.units) w.one_cell.is_library ∙ drawing.units;
-      flat = subst (λ (name : List ℕ). IsWrittenAs job.target w.library name (drawing_of job at)) drawing.named
-          (drawn_layout job.target w.library w.flat (drawing_of job at) w.one_cell drawing.no_texts drawing.shapes drawable);
-      clean = drawings_keep job at thin.separate thin.source thin.target meets_across meets_upwards;
+      layout = back.layout;
+      read_back = back.flat;
+      is_drawing = back.is;
+      clean = layout_keeps_rules job.target.grid job.target (drawing_of job at) back.layout (moved_breaks_no_rule job is at across upwards) back.is;
     }
 
--- the job of inputs with these strips
-abbrev pub job_of : Inputs → List Strip → Job
-job_of inputs strips = record { strips = strips; source = inputs.tables.source; target = inputs.tables.target }
+module _ (files : Given) (library : Library) (asked : Sizes) (job : Job) (is : IsJobOfFiles files library asked job) where
+  -- it is the job of moving some layout
+  pub a_job : IsJob job
+  a_job = record { layout = is.source_read.cell.layout; job_of = is.job_of }
 
--- the job of a source that was read is thin
-pub thin_job : (source : List ℕ) (inputs : Inputs) (library : Library) (strips : List Strip) → AreMatched inputs.tables.source inputs.tables.target
-    → IsReadSource source inputs library strips → IsThinJob (job_of inputs strips)
-thin_job source inputs library strips matched is =
-    let cell = is.cell in
-    let on = on_masks cell.layout inputs.tables.source (map placed strips) is.built.metals cell.are_strips in
-    record {
-      separate = separate (IsStripCell cell.layout inputs.tables.source) _ (map placed strips) cell.are_strips cell.thin.none_stands;
-      few = few_placed strips cell.few;
-      on_masks = record { masks = λ i h. subst (λ (n : ℕ). mask_of (map placed strips) i < n) matched.same_masks (on.masks i h) };
-      source = matched.source;
-      target = matched.target;
-      side_by_side = cell.thin.side_by_side;
-    }
-  where
-    few_placed : (strips : List Strip) → length strips ≤ STRIP_LIMIT → length (map placed strips) ≤ STRIP_LIMIT
-    few_placed strips few = omega (arith, few, length-map strips placed)
+  pub few_strips : length (strips_of job) ≤ STRIP_LIMIT
+  few_strips = few_placed job.view.strips.list is.source_read.cell.few
 
--- the job of the files and what is written for it make up the relation of the headline
-moved : (files : Given) (out : List ℕ) (inputs : Inputs) (library : Library) (strips : List Strip) → AreRead files inputs → IsReadSource files.source inputs library strips
-    → IsThinJob (job_of inputs strips) → IsWrittenFor (job_of inputs strips) library.name inputs.asked.cell out → Moved files out
-moved files out inputs library strips read is thin w = record {
-  asked = inputs.asked;
-  library = library;
-  job = job_of inputs strips;
-  at = w.drawn.at;
-  from = record {
-    read = read.files_are;
-    stream = is.stream;
-    layout = is.cell.layout;
-    flattened = is.cell.flattened;
-    no_labels = is.cell.thin.no_labels;
-    sound = is.cell.clean;
-    strips = is.cell.are_strips;
-  };
-  across = w.drawn.across;
-  upwards = w.drawn.upwards;
-  to = moved_out (job_of inputs strips) library inputs.asked.cell out thin w;
-}
+  -- what is moved
+  moved_job : IsMovedJob files asked library job
+  moved_job = record {
+    read = is.read.files_are;
+    stream = is.source_read.stream;
+    layout = is.source_read.cell.layout;
+    flattened = is.source_read.cell.flattened;
+    no_labels = is.source_read.cell.no_labels;
+    sound = is.source_read.cell.clean;
+    job_of = is.job_of;
+  }
 
--- a run that ends well
-pub done : (files : Given) (out bytes : List ℕ) (inputs : Inputs) (library : Library) (strips : List Strip) → AreRead files inputs
-    → IsReadSource files.source inputs library strips → IsThinJob (job_of inputs strips)
-    → IsWrittenFor (job_of inputs strips) library.name inputs.asked.cell bytes → out ≡ bytes → IsDone files out
-done files out bytes inputs library strips read is thin w same = record {
-  inputs = inputs;
-  library = library;
-  layout = is.cell.layout;
-  strips = map placed strips;
-  wished = wished files inputs library strips read is;
-  moved = subst (Moved files) (sym same) (moved files bytes inputs library strips read is thin w);
-}
+  -- a run that ends well
+  pub done : (out bytes : List ℕ) → IsWrittenFor job library.name asked.cell bytes → out ≡ bytes → IsDone files out
+  done out bytes w same = record {
+    inputs = inputs_of job asked;
+    library = library;
+    layout = is.source_read.cell.layout;
+    strips = map placed job.view.strips.list;
+    wished = wished files (inputs_of job asked) library job.view is.read is.source_read;
+    moved = subst (Moved files) (sym same) (record {
+      asked = asked;
+      library = library;
+      job = job;
+      at = w.drawn.at;
+      from = moved_job;
+      across = w.drawn.across;
+      upwards = w.drawn.upwards;
+      to = moved_out job library asked.cell bytes a_job w;
+    });
+  }
+
+  -- a job that has no positions
+  pub infeasible : (axis : Axis) → NoneMeetOf job axis → IsInfeasible files axis
+  infeasible axis none = record {
+    inputs = inputs_of job asked;
+    library = library;
+    layout = is.source_read.cell.layout;
+    strips = map placed job.view.strips.list;
+    wished = wished files (inputs_of job asked) library job.view is.read is.source_read;
+    job = job;
+    from = moved_job;
+    none_meet = none;
+  }

@@ -1,5 +1,6 @@
 -- What each answer of a retargeting means, of the four files.
-use Rattle.std.specs.Prelude.{◌≡◌, ℕ, ℤ, pos, ◌⊎◌, List, []}
+use Rattle.std.specs.Prelude.{◌≡◌, ◌≢◌, ℕ, ℤ, pos, ◌⊎◌, List, []}
+use Rattle.rt_base.specs.declared.plane.Axis.{Axis}
 use Rattle.rt_base.specs.declared.plane.Cell.{Cell}
 use Rattle.gds_grammar.specs.declared.cause.Cause.{Cause}
 use Rattle.gds_grammar.specs.Stops.{Stops}
@@ -12,6 +13,8 @@ use Rattle.rt_layout.specs.Covering.{MaskCovers}
 use Rattle.toml.specs.Data.{Members}
 use Rattle.rt_keys.specs.declared.error.TableError.TheVariants as table
 use Rattle.rt_keys.specs.Document.{IsDocument}
+use Rattle.rt_nets.specs.declared.job.Job.{Job}
+use Rattle.rt_place.specs.Placing.{NoneMeetOf}
 use Rattle.rt_rules.specs.Rules.{IsFirstBreach}
 use Rattle.rt_strips.specs.Channels.{AreTooMany}
 use Rattle.rt_strips.specs.Placed.{Placed}
@@ -26,7 +29,7 @@ use Rattle.rt_tech.specs.declared.table.Tech.{Tech}
 use Rattle.rt_tech.specs.declared.table.Which.{Which}
 use Rattle.rt_tech.specs.declared.table.Which.TheVariants.{Source, Target}
 use Rattle.rt_retarget.specs.declared.answer.Outcome.{Outcome}
-use Rattle.rt_retarget.specs.declared.answer.Outcome.TheVariants.{Done}
+use Rattle.rt_retarget.specs.declared.answer.Outcome.TheVariants.{Done, Infeasible}
 use Rattle.rt_retarget.specs.declared.answer.What.{What}
 use Rattle.rt_retarget.specs.declared.answer.What.TheVariants.{Items, Strips}
 use Rattle.rt_retarget.specs.declared.answer.Fault.{Fault}
@@ -34,8 +37,8 @@ use Rattle.rt_retarget.specs.declared.answer.Fault.TheVariants.{TableToml, BadTa
 use Rattle.rt_retarget.specs.declared.inputs.Inputs.{Inputs}
 use Rattle.rt_retarget.specs.declared.source.TheConstants.{STRIP_LIMIT}
 use Rattle.rt_retarget.specs.Files.{Given, AreTables, AreBuilt}
-use Rattle.rt_retarget.specs.Stages.{AreRead, IsParsed, IsLaid, IsStripped, IsSound, HasMore, IsTaken, IsWished}
-use Rattle.rt_retarget.specs.Moved.{Moved}
+use Rattle.rt_retarget.specs.Stages.{AreRead, IsParsed, IsLaid, IsStripped, IsSound, IsTaken, IsWished}
+use Rattle.rt_retarget.specs.Moved.{IsMovedJob, Moved}
 
 -- the bytes aren't a TOML document
 abbrev pub IsNoDocument : List ℕ → Type 0
@@ -119,18 +122,18 @@ pub record IsUnsound (files : Given) (rule : RuleName) (p q : Cell) (found neede
   pub stripped : IsStripped files inputs library layout strips
   pub broken : IsFirstBreach (pos 1) inputs.tables.source (MaskCovers layout) rule p q found needed
 
--- the layout is sound, but isn't of what is moved so far
-pub record IsNoThinLayout (files : Given) : Type 0 where
+-- the layout is sound, but has a label: labels aren't moved yet
+pub record HasLabels (files : Given) : Type 0 where
   pub inputs : Inputs
   pub library : Library
   pub layout : Layout
   pub strips : List Placed
   pub sound : IsSound files inputs library layout strips
-  pub more : HasMore inputs.tables.target layout.labels strips
+  pub some_label : layout.labels ≢ []
 
 -- the files ask for what isn't built yet
 abbrev pub IsNotBuilt : Given → Type 0
-IsNotBuilt files = AskForMore files ⊎ IsNoThinLayout files
+IsNotBuilt files = AskForMore files ⊎ HasLabels files
 
 -- the layout is taken, but the sizes file asks for sizes of devices that the cell doesn't have: the first such entry
 pub record HasStraySizes (files : Given) (key : List ℕ) (cause : TableCause) : Type 0 where
@@ -150,9 +153,21 @@ pub record IsDone (files : Given) (out : List ℕ) : Type 0 where
   pub wished : IsWished files inputs library layout strips
   pub moved : Moved files out
 
+-- nothing is refused, but no positions meet the template of the axis; upwards none do at the least columns
+pub record IsInfeasible (files : Given) (axis : Axis) : Type 0 where
+  pub inputs : Inputs
+  pub library : Library
+  pub layout : Layout
+  pub strips : List Placed
+  pub wished : IsWished files inputs library layout strips
+  pub job : Job
+  pub from : IsMovedJob files inputs.asked library job
+  pub none_meet : NoneMeetOf job axis
+
 -- what an outcome says of the files
 abbrev pub IsOutcomeOf : Given → Outcome → Type 0
 IsOutcomeOf files (Done gds cert report) = IsDone files gds × (cert ≡ []) × (report ≡ [])
+IsOutcomeOf files (Infeasible axis cert) = IsInfeasible files axis × (cert ≡ [])
 
 -- what a refusal says of the files
 abbrev pub IsFaultOf : Given → Fault → Type 0

@@ -1,5 +1,5 @@
 -- The job of the four files, what is written for it, and what functions on the way are told and tell.
-use Rattle.std.specs.Prelude.{◌≡◌, ℕ, ℤ, pos, ◌≤◌, ◌≤ℤ◌, List, [], None, length, map}
+use Rattle.std.specs.Prelude.{◌≡◌, ℕ, ℤ, pos, ◌≤◌, List, [], None, length, map}
 use Rattle.gds_flat.specs.declared.error.FlatError.{FlatError}
 use Rattle.gds_flat.specs.declared.error.FlatError.TheVariants as flat
 use Rattle.gds_flat.specs.Refused.{IsFlattened}
@@ -13,14 +13,13 @@ use Rattle.rt_layout.specs.declared.layout.Layout.{Layout}
 use Rattle.rt_layout.specs.Covering.{MaskCovers}
 use Rattle.rt_nets.specs.declared.shapes.View.{View}
 use Rattle.rt_nets.specs.View.{IsViewOf}
+use Rattle.rt_nets.specs.declared.job.Job.{Job}
+use Rattle.rt_nets.specs.Job.{IsJobOf}
 use Rattle.rt_rows.specs.declared.row.Var.{Var}
 use Rattle.rt_rules.specs.Rules.{BreaksNoRule}
 use Rattle.rt_sizes.specs.SizesFile.{IsFaultySizes}
 use Rattle.rt_sizes.specs.Wishes.{wishes_fault}
-use Rattle.rt_strips.specs.declared.listing.Strip.{Strip}
-use Rattle.rt_strips.specs.Channels.{AreLayoutStrips}
 use Rattle.rt_strips.specs.Placed.{Placed, placed}
-use Rattle.rt_strips.specs.Standing.{StandsOn}
 use Rattle.rt_tables.specs.Forms.{AreParted}
 use Rattle.rt_tables.specs.Tables.{IsTechOf, HasTableFault}
 use Rattle.rt_tech.specs.declared.sizes.Sizes.{Sizes}
@@ -28,18 +27,16 @@ use Rattle.rt_tech.specs.declared.table.Tech.{Tech}
 use Rattle.rt_tech.specs.declared.table.Which.{Which}
 use Rattle.rt_tech.specs.declared.table.Which.TheVariants.{Source, Target}
 use Rattle.rt_tech.specs.Tech.{mask_count, IsMeasured}
-use Rattle.rt_template.specs.declared.job.Job.{Job}
-use Rattle.rt_template.specs.Across.{strips_of, extent_limit, IsLeastAcross}
-use Rattle.rt_template.specs.Upwards.{IsLeastUpwards}
-use Rattle.rt_template.specs.Separate.{AreSeparateStrips, AreOnMasksOf, extent_side_by_side}
-use Rattle.rt_carry.specs.Shapes.{IsDrawingOf}
+use Rattle.rt_template.specs.Horizontal.{IsLeastAcross}
+use Rattle.rt_template.specs.Vertical.{IsLeastUpwards}
+use Rattle.rt_carry.specs.Drawings.{IsDrawingOf}
 use Rattle.rt_retarget.specs.declared.answer.Fault.{Fault}
 use Rattle.rt_retarget.specs.declared.answer.Fault.TheVariants.{TableToml, BadTable, TablesDiffer, SizesToml, BadSizes, Unsupported, NoSuchStructure, Cyclic, UnmappedLayer, ArrayStep, CoordinateRange, TooDeep, TooMany, OutOfMemory}
 use Rattle.rt_retarget.specs.declared.answer.What.TheVariants.{Items}
 use Rattle.rt_retarget.specs.declared.inputs.Inputs.{Inputs}
 use Rattle.rt_retarget.specs.declared.source.TheConstants.{STRIP_LIMIT}
 use Rattle.rt_retarget.specs.Files.{Given, AreBuilt}
-use Rattle.rt_retarget.specs.Stages.{AreRead, IsParsed, IsLaid, IsStripped, IsThin, IsTaken}
+use Rattle.rt_retarget.specs.Stages.{AreRead, IsParsed, IsLaid, IsStripped, IsTaken}
 use Rattle.rt_retarget.specs.Answers.{IsNoDocument, IsFaultOf}
 
 -- two tables whose numbers are in their ranges, of as many masks
@@ -47,16 +44,6 @@ pub record AreMatched (source_table target_table : Tech) : Type 0 where
   pub source : IsMeasured source_table
   pub target : IsMeasured target_table
   pub same_masks : mask_count source_table ≡ mask_count target_table
-
--- a job of strips that are separate, few, on masks of the target's table, and fit side by side, with tables whose numbers are in their
--- ranges
-pub record IsThinJob (job : Job) : Type 0 where
-  pub separate : AreSeparateStrips (strips_of job)
-  pub few : length (strips_of job) ≤ STRIP_LIMIT
-  pub on_masks : AreOnMasksOf job.target (strips_of job)
-  pub source : IsMeasured job.source
-  pub target : IsMeasured job.target
-  pub side_by_side : extent_side_by_side job.target (strips_of job) ≤ℤ extent_limit
 
 -- a refusal of a table, as a refusal of the job
 abbrev pub IsTableRefusal : Which → TableError → Fault → Type 0
@@ -144,38 +131,31 @@ pub record IsSoundView (inputs : Inputs) (layout : Layout) (view : View) : Type 
   pub few : length view.strips.list ≤ STRIP_LIMIT
   pub clean : BreaksNoRule (pos 1) inputs.tables.source (MaskCovers layout)
 
--- some strip stands on another; none does
-abbrev pub SomeStands : List Placed → Type 0
-SomeStands strips = (i : ℕ) × (j : ℕ) × StandsOn strips i j
-
-abbrev pub NoneStands : List Placed → Type 0
-NoneStands strips = (i j : ℕ) → ¬ StandsOn strips i j
-
--- these are the strips of the library's cell, which is sound and of what is moved so far
-pub record IsCheckedCell (inputs : Inputs) (library : Library) (strips : List Strip) : Type 0 where
+-- the view is that of the library's cell, which is sound and has no label
+pub record IsCheckedCell (inputs : Inputs) (library : Library) (view : View) : Type 0 where
   pub layout : Layout
   pub flattened : IsFlattened library.structures inputs.asked.cell inputs.tables.source layout
-  pub are_strips : AreLayoutStrips layout inputs.tables.source (map placed strips)
-  pub few : length strips ≤ STRIP_LIMIT
+  pub is_view : IsViewOf layout inputs.tables.source view
+  pub few : length view.strips.list ≤ STRIP_LIMIT
   pub clean : BreaksNoRule (pos 1) inputs.tables.source (MaskCovers layout)
-  pub thin : IsThin inputs.tables.target layout.labels (map placed strips)
+  pub no_labels : layout.labels ≡ []
   pub no_strays : wishes_fault inputs.asked [] ≡ None
 
 -- what is read of a source whose cell is moved, by inputs that were read
-pub record IsReadSource (source : List ℕ) (inputs : Inputs) (library : Library) (strips : List Strip) : Type 0 where
+pub record IsReadSource (source : List ℕ) (inputs : Inputs) (library : Library) (view : View) : Type 0 where
   pub built : AreBuilt inputs.tables.source inputs.asked
   pub stream : Stream source library
-  pub cell : IsCheckedCell inputs library strips
+  pub cell : IsCheckedCell inputs library view
 
 -- the inputs of a job: its tables, and what is asked for
 abbrev pub inputs_of : Job → Sizes → Inputs
 inputs_of job asked = record { tables = record { source = job.source; target = job.target }; asked = asked }
 
--- the job of the four files: its tables and what is asked are read from them, and its strips are those of the source
+-- the job of the four files: its tables and what is asked are read from them, and its view is that of the source
 pub record IsJobOfFiles (files : Given) (library : Library) (asked : Sizes) (job : Job) : Type 0 where
   pub read : AreRead files (inputs_of job asked)
-  pub source_read : IsReadSource files.source (inputs_of job asked) library job.strips
-  pub thin : IsThinJob job
+  pub source_read : IsReadSource files.source (inputs_of job asked) library job.view
+  pub job_of : IsJobOf source_read.cell.layout job
 
 -- the cell is the drawing of a job at its least positions
 pub record IsDrawnFor (job : Job) (library_name cell : List ℕ) (flat : Flat) : Type 0 where

@@ -14,7 +14,7 @@ use Rattle.rt_tech.specs.declared.table.Which.{Which}
 use Rattle.rt_retarget.specs.declared.inputs.Inputs.{Inputs}
 use Rattle.rt_retarget.specs.Files.{Given}
 use Rattle.rt_retarget.specs.Stages.{AreRead, IsParsed, IsLaid, IsStripped, IsSound, IsTaken, IsWished}
-use Rattle.rt_retarget.specs.Answers.{IsNoTable, IsBadTable, AreOfTwoForms, HasNoSizes, HasBadSizes, AskForMore, IsNoStream, IsNotFlattened, HasTooManyStrips, IsUnsound, IsNoThinLayout, HasStraySizes}
+use Rattle.rt_retarget.specs.Answers.{IsNoTable, IsBadTable, AreOfTwoForms, HasNoSizes, HasBadSizes, AskForMore, IsNoStream, IsNotFlattened, HasTooManyStrips, IsUnsound, HasLabels, HasStraySizes}
 
 -- files of which a table is refused aren't read
 abbrev pub NoTableIsntRead : Type 0
@@ -56,10 +56,10 @@ abbrev pub UnsoundIsntSound : Type 0
 UnsoundIsntSound = (files : Given) (inputs : Inputs) (library : Library) (layout : Layout) (strips : List Placed) (rule : RuleName) (p q : Cell) (found needed : ℤ)
     → IsUnsound files rule p q found needed → IsSound files inputs library layout strips → ⊥
 
--- files whose layout has more than is moved so far aren't taken
-abbrev pub MoreIsntTaken : Type 0
-MoreIsntTaken = (files : Given) (inputs : Inputs) (library : Library) (layout : Layout) (strips : List Placed)
-    → IsNoThinLayout files → IsTaken files inputs library layout strips → ⊥
+-- files whose layout has a label aren't taken
+abbrev pub LabelsArentTaken : Type 0
+LabelsArentTaken = (files : Given) (inputs : Inputs) (library : Library) (layout : Layout) (strips : List Placed)
+    → HasLabels files → IsTaken files inputs library layout strips → ⊥
 
 -- files with stray sizes don't ask for what the cell has
 abbrev pub StraysArentWished : Type 0

@@ -1,6 +1,5 @@
 pub mod Files
 pub mod Stages
-pub mod Written
 pub mod Moved
 pub mod Answers
 pub mod Jobs

@@ -1,23 +1,24 @@
 -- The relation of the headline: the written bytes are the source, moved to the target's rules, and least.
 use Rattle.std.specs.Prelude.{◌≡◌, ℕ, ℤ, pos, List, []}
+use Rattle.gds_flat.specs.Items.{Flat as IsFlatOf}
 use Rattle.gds_flat.specs.Refused.{IsFlattened}
 use Rattle.gds_stream.specs.declared.library.Library.{Library}
 use Rattle.gds_stream.specs.declared.cell.Flat.{Flat}
 use Rattle.gds_stream.specs.Contents.{Stream}
 use Rattle.gds_stream.specs.Written.{written}
-use Rattle.rt_carry.specs.Shapes.{IsDrawingOf}
+use Rattle.rt_carry.specs.Drawings.{IsDrawingOf}
 use Rattle.rt_layout.specs.declared.layout.Layout.{Layout}
 use Rattle.rt_layout.specs.Covering.{MaskCovers}
+use Rattle.rt_nets.specs.declared.job.Job.{Job}
+use Rattle.rt_nets.specs.Job.{strips_of, IsJobOf}
 use Rattle.rt_rows.specs.declared.row.Var.{Var}
 use Rattle.rt_rules.specs.Rules.{BreaksNoRule}
-use Rattle.rt_strips.specs.Channels.{AreLayoutStrips}
-use Rattle.rt_strips.specs.Placed.{Placed, covered_by}
+use Rattle.rt_strips.specs.Placed.{Placed}
 use Rattle.rt_tech.specs.declared.sizes.Sizes.{Sizes}
-use Rattle.rt_template.specs.declared.job.Job.{Job}
-use Rattle.rt_template.specs.Across.{strips_of, IsLeastAcross}
-use Rattle.rt_template.specs.Upwards.{IsLeastUpwards}
+use Rattle.rt_template.specs.Horizontal.{IsLeastAcross}
+use Rattle.rt_template.specs.Vertical.{IsLeastUpwards}
 use Rattle.rt_template.specs.Drawing.{drawn}
-use Rattle.rt_retarget.specs.Written.{IsWrittenAs}
+use Rattle.rt_written.specs.ReadBack.{IsLayoutOf}
 use Rattle.rt_retarget.specs.Files.{Given, AreFiles}
 
 -- the strips of the job at the positions, in database units of the target
@@ -25,7 +26,7 @@ abbrev pub drawing_of : Job → (Var → ℤ) → List Placed
 drawing_of job at = drawn job.target.grid at (strips_of job)
 
 -- what is moved: the tables and the sizes file are valid, the source is a stream whose cell is flattened to a layout without labels that
--- breaks no source rule, and the job has the strips of that layout and both tables
+-- breaks no source rule, and the job is that of moving the layout, with both tables
 pub record IsMovedJob (files : Given) (asked : Sizes) (library : Library) (job : Job) : Type 0 where
   pub read : AreFiles files.stable files.ttable files.sizes job.source job.target asked
   pub stream : Stream files.source library
@@ -33,10 +34,10 @@ pub record IsMovedJob (files : Given) (asked : Sizes) (library : Library) (job :
   pub flattened : IsFlattened library.structures asked.cell job.source layout
   pub no_labels : layout.labels ≡ []
   pub sound : BreaksNoRule (pos 1) job.source (MaskCovers layout)
-  pub strips : AreLayoutStrips layout job.source (strips_of job)
+  pub job_of : IsJobOf layout job
 
--- what is written: the bytes of the drawn cell, which are a stream whose layout is the drawing, rectangle by rectangle, and which
--- breaks no target rule
+-- what is written: the bytes of the drawn cell, a stream; flattened by the target's table it is a layout of just the drawing's rectangles,
+-- by mask and in order, which breaks no target rule
 pub record IsMovedOut (out name : List ℕ) (library : Library) (job : Job) (at : Var → ℤ) : Type 0 where
   pub cell : Flat
   pub drawing : IsDrawingOf job at library.name name cell
@@ -45,8 +46,10 @@ pub record IsMovedOut (out name : List ℕ) (library : Library) (job : Job) (at 
   pub stream : Stream out moved
   pub library_name : moved.name ≡ library.name
   pub units : moved.units ≡ job.target.units
-  pub flat : IsWrittenAs job.target moved name (drawing_of job at)
-  pub clean : BreaksNoRule job.target.grid job.target (λ m. covered_by m (drawing_of job at))
+  pub layout : Layout
+  pub read_back : IsFlatOf moved.structures job.target name layout
+  pub is_drawing : IsLayoutOf job.target (drawing_of job at) layout
+  pub clean : BreaksNoRule job.target.grid job.target (MaskCovers layout)
 
 -- the bytes of out are the source, moved: its strips at the least positions that meet both templates
 pub record Moved (files : Given) (out : List ℕ) : Type 0 where

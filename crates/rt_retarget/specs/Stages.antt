@@ -1,19 +1,14 @@
 -- What is known of the files, stage by stage: each stage holds the one before it.
-use Rattle.std.specs.Prelude.{◌≡◌, ℕ, ◌≤◌, ◌<◌, ℤ, pos, ◌≤ℤ◌, ◌<ℤ◌, ◌⊎◌, ◌≢◌, List, [], None, length, map}
+use Rattle.std.specs.Prelude.{◌≡◌, ◌≤◌, pos, List, [], None, length}
 use Rattle.gds_stream.specs.declared.library.Library.{Library}
 use Rattle.gds_stream.specs.Contents.{Stream}
 use Rattle.gds_flat.specs.Refused.{IsFlattened}
-use Rattle.rt_layout.specs.declared.layout.Label.{Label}
 use Rattle.rt_layout.specs.declared.layout.Layout.{Layout}
 use Rattle.rt_layout.specs.Covering.{MaskCovers}
 use Rattle.rt_rules.specs.Rules.{BreaksNoRule}
 use Rattle.rt_sizes.specs.Wishes.{wishes_fault}
 use Rattle.rt_strips.specs.Channels.{AreLayoutStrips}
 use Rattle.rt_strips.specs.Placed.{Placed}
-use Rattle.rt_strips.specs.Standing.{StandsOn}
-use Rattle.rt_tech.specs.declared.table.Tech.{Tech}
-use Rattle.rt_template.specs.Across.{extent_limit}
-use Rattle.rt_template.specs.Separate.{extent_side_by_side}
 use Rattle.rt_retarget.specs.declared.inputs.Inputs.{Inputs}
 use Rattle.rt_retarget.specs.declared.source.TheConstants.{STRIP_LIMIT}
 use Rattle.rt_retarget.specs.Files.{Given, AreFiles, AreBuilt}
@@ -44,22 +39,10 @@ pub record IsSound (files : Given) (inputs : Inputs) (library : Library) (layout
   pub stripped : IsStripped files inputs library layout strips
   pub clean : BreaksNoRule (pos 1) inputs.tables.source (MaskCovers layout)
 
--- what is moved so far: no labels, and strips none of which stands on another, and which fit the greatest extent side by side in
--- one row, at the target's widths and spaces
-pub record IsThin (target_table : Tech) (labels : List Label) (strips : List Placed) : Type 0 where
-  pub no_labels : labels ≡ []
-  pub none_stands : (i j : ℕ) → ¬ StandsOn strips i j
-  pub side_by_side : extent_side_by_side target_table strips ≤ℤ extent_limit
-
--- what isn't moved yet: a label, a strip that stands on another, or too many strips for the greatest extent
-abbrev pub HasMore : Tech → List Label → List Placed → Type 0
-HasMore target_table labels strips =
-    (labels ≢ []) ⊎ ((i : ℕ) × (j : ℕ) × StandsOn strips i j) ⊎ (extent_limit <ℤ extent_side_by_side target_table strips)
-
--- and the layout is of what is moved so far
+-- and the layout has no label: labels aren't moved yet
 pub record IsTaken (files : Given) (inputs : Inputs) (library : Library) (layout : Layout) (strips : List Placed) : Type 0 where
   pub sound : IsSound files inputs library layout strips
-  pub thin : IsThin inputs.tables.target layout.labels strips
+  pub no_labels : layout.labels ≡ []
 
 -- and the sizes file asks for no device, as the cell has none
 pub record IsWished (files : Given) (inputs : Inputs) (library : Library) (layout : Layout) (strips : List Placed) : Type 0 where

@@ -1,7 +1,7 @@
 //! What a retargeting answers.
 use gds_flat::Odd;
 use gds_stream::Cause;
-use rt_base::{Cell, List, Text};
+use rt_base::{Axis, Cell, List, Text};
 use rt_tech::{RuleName, TableCause, Which};
 use thiserror::Error;
 
@@ -16,6 +16,13 @@ pub enum Outcome {
         cert: List<u8>,
         /// The report. It is empty: reports aren't built yet.
         report: List<u8>,
+    },
+    /// No positions meet the template of the axis; upwards none do at the least columns.
+    Infeasible {
+        /// The axis.
+        axis: Axis,
+        /// The certificate. It is empty: certificates aren't built yet.
+        cert: List<u8>,
     },
 }
 

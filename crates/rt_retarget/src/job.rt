@@ -8,9 +8,12 @@ use crate::inputs::read_inputs;
 use crate::output::stream_of;
 use crate::source::read_source;
 use gds_stream::Library;
+use rt_arena::Reads;
 use rt_base::List;
+use rt_nets::Job;
+use rt_place::PlaceError;
+use rt_strips::Climbs;
 use rt_tech::Sizes;
-use rt_template::Job;
 use std::alloc::Global;
 
 // What is moved: the job, the library that its strips are from, and what is asked for.
@@ -27,26 +30,34 @@ struct Work {
 /// in this order, and the first that holds is answered: `TableToml` and `BadTable` of the source's table, then of the
 /// target's; `TablesDiffer`; `SizesToml` and `BadSizes`; `NotBuilt`, where a mask isn't metal, there is a distance between
 /// masks or a mirror is asked for; `BadStream`; the refusals of the flattening, `TooMany` of items among them; `TooMany` of
-/// strips; `SourceRule`; `NotBuilt`, where the layout has a label, a strip stands on another, or the strips don't fit the greatest extent
-/// side by side; `BadSizes`, where there are sizes for a device. `OutOfMemory` comes only for want of memory, and want of memory is
-/// answered in no other form.
-pub fn retarget(
+/// strips; `SourceRule`; `NotBuilt`, where the layout has a label; `BadSizes`, where there are sizes for a device; `Infeasible` across and
+/// upwards, where no positions meet the template of that axis. `OutOfMemory` comes only for want of memory, and want of memory is
+/// answered in no other form. No planes are read yet, so the ledger of reads stays as it is.
+pub fn retarget<L>(
     alloc: Global,
     source: &[u8],
     stable: &[u8],
     ttable: &[u8],
     sizes: &[u8],
+    reads: &mut Reads<L>,
 ) -> Result<Outcome, Fault>
     ensures done { IfOk result (IsOutcomeOf (given source.now stable.now ttable.now sizes.now)) }
     ensures refused { IfErr result (IsFaultOf (given source.now stable.now ttable.now sizes.now)) }
+    ensures reads { reads.new ≡ reads.old }
 {
     let work = read_work(alloc, source, stable, ttable, sizes)?;
-    let bytes = stream_of(alloc, &work.job, &work.library.name, &work.asked.cell)?;
-    Ok(Outcome::Done {
-        gds: List::of(bytes),
-        cert: List::new(alloc),
-        report: List::new(alloc),
-    })
+    match stream_of(alloc, &work.job, &work.library.name, &work.asked.cell) {
+        Ok(bytes) => Ok(Outcome::Done {
+            gds: List::of(bytes),
+            cert: List::new(alloc),
+            report: List::new(alloc),
+        }),
+        Err(PlaceError::NoneMeet { axis }) => Ok(Outcome::Infeasible {
+            axis,
+            cert: List::new(alloc),
+        }),
+        Err(PlaceError::OutOfMemory) => Err(Fault::OutOfMemory),
+    }
 }
 
 // The job of the four files, or why they are refused.
@@ -62,11 +73,15 @@ fn read_work(
 {
     let inputs = read_inputs(alloc, stable, ttable, sizes)?;
     let found = read_source(alloc, source, &inputs)?;
+    let climbs = Climbs::of(alloc, &found.view.strips)?;
     Ok(Work {
         job: Job {
-            strips: found.strips,
+            view: found.view,
+            climbs,
             source: inputs.tables.source,
             target: inputs.tables.target,
+            wishes: List::new(alloc),
+            pairs: List::new(alloc),
         },
         library: found.library,
         asked: inputs.asked,

@@ -1,5 +1,5 @@
 //! The laws of this crate, each a function without a body whose contract is the law: what is refused at a stage isn't at the next one.
-ghost use Rattle.rt_retarget.specs.Ladder.{NoTableIsntRead, BadTableIsntRead, TwoFormsArentRead, NoSizesArentRead, BadSizesArentRead, MoreIsntParsed, NoStreamIsntParsed, UnflattenedIsntLaid, TooManyIsntStripped, UnsoundIsntSound, MoreIsntTaken, StraysArentWished};
+ghost use Rattle.rt_retarget.specs.Ladder.{NoTableIsntRead, BadTableIsntRead, TwoFormsArentRead, NoSizesArentRead, BadSizesArentRead, MoreIsntParsed, NoStreamIsntParsed, UnflattenedIsntLaid, TooManyIsntStripped, UnsoundIsntSound, LabelsArentTaken, StraysArentWished};
 
 /// Law: files of which a table or the sizes file is refused, or whose tables are of two forms, aren't read.
 pub fn refused_tables_and_sizes_are_not_read()
@@ -22,6 +22,6 @@ pub fn refused_sources_have_no_layout()
 pub fn refused_layouts_are_not_moved()
     ensures too_many { TooManyIsntStripped }
     ensures unsound { UnsoundIsntSound }
-    ensures more { MoreIsntTaken }
+    ensures more { LabelsArentTaken }
     ensures strays { StraysArentWished }
 {}

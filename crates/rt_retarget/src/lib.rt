@@ -8,7 +8,6 @@ mod laws;
 mod output;
 mod refusals;
 mod source;
-mod thin;
 
 pub use answer::{Fault, Outcome, What};
 pub use job::retarget;

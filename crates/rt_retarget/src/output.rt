@@ -1,36 +1,69 @@
 //! The output: the drawing of a job at its least positions, and its stream.
-ghost use Rattle.std.specs.Prelude.{◌<◌, ◌≤◌, length, IfOk};
-ghost use Rattle.rt_retarget.specs.Jobs.{IsThinJob, IsDrawnFor, IsWrittenFor};
+ghost use Rattle.std.specs.Prelude.{◌<◌, ◌≤◌, length, IfOk, IfErr};
+ghost use Rattle.rt_nets.specs.Job.{strips_of, IsJob};
+ghost use Rattle.rt_place.specs.Placing.{ArePositionsOf, IsPlaceErrorOf};
+ghost use Rattle.rt_retarget.specs.declared.source.TheConstants.{STRIP_LIMIT};
+ghost use Rattle.rt_retarget.specs.Jobs.{IsDrawnFor, IsWrittenFor};
 
 use gds_stream::{Flat, write_stream};
 use rt_base::{OutOfMemory, Text};
 use rt_carry::draw;
-use rt_islands::place;
-use rt_template::Job;
+use rt_nets::Job;
+use rt_place::{PlaceError, place};
+use rt_rows::Positions;
 use std::alloc::Global;
 
-/// The stream of the job's drawing at its least positions, in the library and under the cell's name.
+/// The stream of the job's drawing at its least positions, in the library and under the cell's name; or the axis along which it has none.
 pub fn stream_of(
     alloc: Global,
     job: &Job,
     library: &Text,
     cell: &Text,
+) -> Result<Vec<u8>, PlaceError>
+    requires job { IsJob job.now }
+    requires few { length (strips_of job.now) ≤ STRIP_LIMIT }
+    requires named { 0 < length cell.now }
+    requires cell_short { length cell.now ≤ 65530 }
+    requires library_short { length library.now ≤ 65530 }
+    ensures written { IfOk result (λ bytes. IsWrittenFor job.now library.now cell.now bytes.items) }
+    ensures none { IfErr result (IsPlaceErrorOf job.now) }
+{
+    let at = place(alloc, job)?;
+    let bytes = drawn_stream(alloc, job, &at, library, cell)?;
+    Ok(bytes)
+}
+
+// The stream of the drawing at the positions.
+fn drawn_stream(
+    alloc: Global,
+    job: &Job,
+    at: &Positions,
+    library: &Text,
+    cell: &Text,
 ) -> Result<Vec<u8>, OutOfMemory>
-    requires thin { IsThinJob job.now }
+    requires job { IsJob job.now }
+    requires positions { ArePositionsOf job.now at.now }
     requires named { 0 < length cell.now }
     requires cell_short { length cell.now ≤ 65530 }
     requires library_short { length library.now ≤ 65530 }
     ensures { IfOk result (λ bytes. IsWrittenFor job.now library.now cell.now bytes.items) }
 {
-    let flat = drawing_of(alloc, job, library, cell)?;
+    let flat = drawing_of(alloc, job, at, library, cell)?;
     write_stream(alloc, &flat)
 }
 
-// The drawing of the job at its least positions.
-fn drawing_of(alloc: Global, job: &Job, library: &Text, cell: &Text) -> Result<Flat, OutOfMemory>
-    requires { IsThinJob job.now }
+// The drawing at the positions.
+fn drawing_of(
+    alloc: Global,
+    job: &Job,
+    at: &Positions,
+    library: &Text,
+    cell: &Text,
+) -> Result<Flat, OutOfMemory>
+    requires job { IsJob job.now }
+    requires positions { ArePositionsOf job.now at.now }
     ensures { IfOk result (IsDrawnFor job.now library.now cell.now) }
 {
-    let at = place(alloc, job)?;
-    draw(alloc, job, &at, library, cell)
+    let flat = draw(alloc, job, at, library, cell)?;
+    Ok(flat)
 }

@@ -1,5 +1,5 @@
-//! The source: its library, the flat layout of its cell, the layout's strips, the rules that it keeps, and what of it is moved.
-ghost use Rattle.std.specs.Prelude.{◌≡◌, ◌≤◌, pos, length, All, IfOk, IfErr, OnOk};
+//! The source: its library, the flat layout of its cell, the layout's view, and the rules that it keeps.
+ghost use Rattle.std.specs.Prelude.{◌≡◌, ◌≢◌, ◌≤◌, pos, length, [], All, IfOk, IfErr, OnOk, MatchBool};
 ghost use Rattle.gds_flat.specs.Drawn.{AreDrawable};
 ghost use Rattle.gds_flat.specs.Refused.{IsFlattened};
 ghost use Rattle.gds_stream.specs.Contents.{Stream};
@@ -15,14 +15,12 @@ ghost use Rattle.rt_retarget.specs.Jobs.{AreMatched, IsReadSource, IsSoundView, 
 use crate::answer::{Fault, What};
 use crate::inputs::{Inputs, are_built, check_strays};
 use crate::refusals::flat_refusal;
-use crate::thin::has_more;
 use gds_flat::flatten;
 use gds_stream::{Library, StreamError, read_stream};
-use rt_base::List;
 use rt_drc::check_rules;
 use rt_layout::Layout;
 use rt_nets::{NetError, View, view_of};
-use rt_strips::{Strip, StripError, Strips, strips_of};
+use rt_strips::{StripError, Strips, strips_of};
 use rt_tech::{RuleError, Tech};
 use std::alloc::Global;
 
@@ -34,23 +32,23 @@ pub const STRIP_LIMIT: u32 = 120;
 pub struct Source {
     /// Its library.
     pub library: Library,
-    /// The strips of the library's cell, in order of mask, then bottom, then left, in source database units.
-    pub strips: List<Strip>,
+    /// The view of the library's cell, in source database units.
+    pub view: View,
 }
 
-/// What the source holds, where the files ask for what is built, its cell is sound by the source's table and of what is moved so far, and no
+/// What the source holds, where the files ask for what is built, its cell is sound by the source's table and has no label, and no
 /// sizes are asked for devices; or the first of these that fails.
 pub fn read_source(alloc: Global, bytes: &[u8], inputs: &Inputs) -> Result<Source, Fault>
     requires { AreMatched inputs.now.tables.source inputs.now.tables.target }
-    ensures read { IfOk result (λ source. IsReadSource bytes.now inputs.now source.library source.strips) }
+    ensures read { IfOk result (λ source. IsReadSource bytes.now inputs.now source.library source.view) }
     ensures refused { IfErr result (IsFaultOfRead bytes.now inputs.now) }
 {
     if !are_built(&inputs.tables.source, &inputs.asked) {
         return Err(Fault::NotBuilt);
     }
     let library = read_library(alloc, bytes, inputs)?;
-    let strips = cell_strips(alloc, &library, inputs)?;
-    Ok(Source { library, strips })
+    let view = cell_view(alloc, &library, inputs)?;
+    Ok(Source { library, view })
 }
 
 // The library that the source holds, or where and why it is no stream.
@@ -66,21 +64,28 @@ fn read_library(alloc: Global, source: &[u8], inputs: &Inputs) -> Result<Library
     }
 }
 
-// The strips of the library's cell, where its layout is sound and of what is moved so far.
-fn cell_strips(alloc: Global, library: &Library, inputs: &Inputs) -> Result<List<Strip>, Fault>
+// The view of the library's cell, where its layout is sound and has no label.
+fn cell_view(alloc: Global, library: &Library, inputs: &Inputs) -> Result<View, Fault>
     requires tables { AreMatched inputs.now.tables.source inputs.now.tables.target }
     requires built { AreBuilt inputs.now.tables.source inputs.now.asked }
     requires drawable { AreDrawable library.now.structures }
-    ensures strips { IfOk result (IsCheckedCell inputs.now library.now) }
+    ensures view { IfOk result (IsCheckedCell inputs.now library.now) }
     ensures refused { IfErr result (IsFaultOfParsed inputs.now library.now) }
 {
     let layout = flat_cell(alloc, library, inputs)?;
     let view = sound_view(alloc, &layout, inputs)?;
-    if has_more(alloc, &view, &inputs.tables.target)? {
+    if has_labels(&view) {
         return Err(Fault::NotBuilt);
     }
     check_strays(alloc, inputs)?;
-    Ok(view.strips.list)
+    Ok(view)
+}
+
+// Whether the view has a label.
+fn has_labels(view: &View) -> bool
+    ensures { MatchBool result (view.now.labels ≢ []) (view.now.labels ≡ []) }
+{
+    !view.labels.as_slice().is_empty()
 }
 
 // The flat layout of the library's cell by the source's table, or why it isn't flattened.

@@ -1,2 +1,5 @@
 pub mod Rows
 pub mod Places
+pub mod Order
+pub mod Keys
+pub mod Known

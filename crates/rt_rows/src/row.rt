@@ -1,4 +1,7 @@
 //! Rows, their terms, and what they speak of.
+ghost use Rattle.std.specs.Prelude.{◌≡◌, pos, ◌≤ℤ◌};
+ghost use Rattle.rt_rows.specs.Rows as spec;
+
 /// What a row speaks of. Numbers are of strips, from 0. Values are target steps. (This project's own.)
 #[derive(Clone, Copy, Drop)]
 pub enum Var {
@@ -34,4 +37,47 @@ pub struct Row {
     pub terms: [Option<Term>; 3],
     /// The least value of their sum.
     pub least: i64,
+}
+
+impl Row {
+    /// The variable is at least a number.
+    pub fn at_least(var: Var, least: i64) -> Row
+        ensures { result ≡ spec.at_least var least }
+    {
+        Row {
+            terms: [Some(Term { var, times: 1 }), None, None],
+            least,
+        }
+    }
+
+    /// The variable is at most a number that isn't below 0.
+    pub fn at_most(var: Var, most: i64) -> Row
+        requires { pos 0 ≤ℤ most }
+        ensures { result ≡ spec.at_most var most }
+    {
+        Row {
+            terms: [Some(Term { var, times: -1 }), None, None],
+            least: -most,
+        }
+    }
+
+    /// The second variable is beyond the first by a number at least.
+    pub fn beyond(first: Var, second: Var, by: i64) -> Row
+        ensures { result ≡ spec.beyond first second by }
+    {
+        Row {
+            terms: [
+                Some(Term {
+                    var: second,
+                    times: 1,
+                }),
+                Some(Term {
+                    var: first,
+                    times: -1,
+                }),
+                None,
+            ],
+            least: by,
+        }
+    }
 }

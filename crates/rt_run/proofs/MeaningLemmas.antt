@@ -4,7 +4,7 @@ use Rattle.rt_desk.specs.declared.outside.DeskError.{DeskError}
 use Rattle.rt_desk.specs.declared.outside.DeskError.TheVariants as unfetched
 use Rattle.rt_desk.specs.Desk.{Files, Outside, IsOverLong, OnlyFetches, OnlySays, IsFailedStore}
 use Rattle.rt_run.specs.declared.answer.Answer.{Answer}
-use Rattle.rt_run.specs.declared.answer.Answer.TheVariants.{Done, Usage, Refused, NotFetched, NotStored, OutOfMemory}
+use Rattle.rt_run.specs.declared.answer.Answer.TheVariants.{Done, Usage, Refused, Infeasible, NotFetched, NotStored, OutOfMemory}
 use Rattle.rt_run.specs.declared.fetching.TheConstants.{FILE_LIMIT}
 use Rattle.rt_retarget.specs.Files.{Given}
 use Rattle.rt_run.specs.Words.{Names, AreWordsFor}
@@ -31,6 +31,7 @@ same_contents contents out a b c d Done left right means =
 same_contents contents out a b c d NotStored left right means =
     record { bytes = means.bytes; moved = means.moved; failed = same_failed a b c d out left right means.failed }
 same_contents contents out a b c d (Refused refusal) left right means = (means.0, means.1, rw (left.files, right.files) means.2)
+same_contents contents out a b c d (Infeasible axis) left right means = (means.0, rw (left.files, right.files) means.1)
 same_contents contents out a b c d OutOfMemory left right means = rw (left.files, right.files) means
 same_contents contents out a b c d Usage left right means = means
 same_contents contents out a b c d (NotFetched file) left right means = means
@@ -42,6 +43,7 @@ of_store contents out bytes before after Done moved means = record { bytes = byt
 of_store contents out bytes before after NotStored moved means = record { bytes = bytes; moved = moved; failed = means }
 of_store contents out bytes before after OutOfMemory moved means = means
 of_store contents out bytes before after (Refused refusal) moved means = absurd means
+of_store contents out bytes before after (Infeasible axis) moved means = absurd means
 of_store contents out bytes before after Usage moved means = means
 of_store contents out bytes before after (NotFetched file) moved means = means
 
@@ -51,6 +53,7 @@ fetched_means : (contents : Given) (names : Names) (old new : Outside) (answer :
 fetched_means contents names old new Done fetched means = record { contents = contents; fetched = fetched; means = means }
 fetched_means contents names old new NotStored fetched means = record { contents = contents; fetched = fetched; means = means }
 fetched_means contents names old new (Refused refusal) fetched means = record { contents = contents; fetched = fetched; means = means }
+fetched_means contents names old new (Infeasible axis) fetched means = record { contents = contents; fetched = fetched; means = means }
 fetched_means contents names old new OutOfMemory fetched means = means
 fetched_means contents names old new Usage fetched means = means
 fetched_means contents names old new (NotFetched file) fetched means = absurd means
@@ -69,6 +72,7 @@ pub of_names : (words : List (List ℕ)) (names : Names) (before after : Outside
 of_names words names before after Done form means = record { names = names; form = form; means = means }
 of_names words names before after NotStored form means = record { names = names; form = form; means = means }
 of_names words names before after (Refused refusal) form means = record { names = names; form = form; means = means }
+of_names words names before after (Infeasible axis) form means = record { names = names; form = form; means = means }
 of_names words names before after (NotFetched file) form means = record { names = names; form = form; means = means }
 of_names words names before after OutOfMemory form means = record { names = names; form = form; means = means }
 of_names words names before after Usage form means = absurd means
@@ -112,6 +116,7 @@ names_until : (names : Names) (old mid new : Outside) (answer : Answer) → Only
 names_until names old mid new Done stays is = fetched_until names old mid new Done stays is
 names_until names old mid new NotStored stays is = fetched_until names old mid new NotStored stays is
 names_until names old mid new (Refused refusal) stays is = fetched_until names old mid new (Refused refusal) stays is
+names_until names old mid new (Infeasible axis) stays is = fetched_until names old mid new (Infeasible axis) stays is
 names_until names old mid new (NotFetched file) stays is =
     (not_fetched_until old mid new (fetched_names names) file.name.now file.error stays is.0, stays.files ∙ is.1)
 names_until names old mid new OutOfMemory stays is = stays.files ∙ is
@@ -127,5 +132,6 @@ means_until words old mid new Usage stays is = record { no_form = is.no_form; fi
 means_until words old mid new Done stays is = words_until words old mid new Done stays is
 means_until words old mid new NotStored stays is = words_until words old mid new NotStored stays is
 means_until words old mid new (Refused refusal) stays is = words_until words old mid new (Refused refusal) stays is
+means_until words old mid new (Infeasible axis) stays is = words_until words old mid new (Infeasible axis) stays is
 means_until words old mid new (NotFetched file) stays is = words_until words old mid new (NotFetched file) stays is
 means_until words old mid new OutOfMemory stays is = words_until words old mid new OutOfMemory stays is

@@ -10,7 +10,7 @@ use Rattle.rt_retarget.specs.Files.{Given}
 use Rattle.rt_retarget.specs.Jobs.{given}
 use Rattle.rt_desk.specs.Desk.{Outside}
 use Rattle.rt_run.specs.declared.answer.Answer.{Answer}
-use Rattle.rt_run.specs.declared.answer.Answer.TheVariants.{Done, Usage, Refused, NotFetched, NotStored, OutOfMemory}
+use Rattle.rt_run.specs.declared.answer.Answer.TheVariants.{Done, Usage, Refused, Infeasible, NotFetched, NotStored, OutOfMemory}
 use Rattle.rt_run.specs.Answers.{IsBrokenIn, AreNamesFor, MeansOfRefusal, MeansOfContents}
 
 pub refusal_of_lists : (contents : Given) (source stable ttable sizes : List ℕ) (fault : Fault)
@@ -46,6 +46,7 @@ refusal_means contents out stable outside fault (Refused refusal) same is means 
     (rw means.0 is, subst (λ (bytes : List ℕ). AreNamesFor bytes refusal.fault refusal.names) same means.1, refl)
 refusal_means contents out stable outside fault OutOfMemory same is means = refl
 refusal_means contents out stable outside fault Done same is means = absurd means
+refusal_means contents out stable outside fault (Infeasible axis) same is means = absurd means
 refusal_means contents out stable outside fault Usage same is means = means
 refusal_means contents out stable outside fault NotStored same is means = absurd means
 refusal_means contents out stable outside fault (NotFetched file) same is means = means

@@ -3,7 +3,7 @@ use Rattle.std.specs.Prelude.{◌≡◌, ℕ, List, [], codes}
 use Rattle.rt_desk.specs.declared.outside.DeskError.{DeskError}
 use Rattle.rt_desk.specs.declared.outside.DeskError.TheVariants as unfetched
 use Rattle.rt_desk.specs.Desk.{Outside, IsStored, IsFailedStore, IsSaid, IsSaidInPart, IsFailedSay}
-use Rattle.rt_lines.specs.Lines.{usage_line, bad_stream_line, table_fault_line, table_not_toml_line, tables_differ_line, sizes_fault_line, sizes_not_toml_line, source_rule_line, unfetched_line, not_built_line, unsupported_line, no_such_structure_line, cyclic_line, unmapped_layer_line, array_step_line, coordinate_range_line, too_many_line, too_deep_line}
+use Rattle.rt_lines.specs.Lines.{usage_line, bad_stream_line, table_fault_line, table_not_toml_line, tables_differ_line, sizes_fault_line, sizes_not_toml_line, source_rule_line, unfetched_line, not_built_line, unsupported_line, no_such_structure_line, cyclic_line, unmapped_layer_line, array_step_line, coordinate_range_line, too_many_line, too_deep_line, infeasible_line}
 use Rattle.gds_flat.specs.declared.error.Odd.{Odd}
 use Rattle.gds_flat.specs.declared.error.Odd.TheVariants.{PathType, PathWidth, BoxElement, Magnification, Angle, Absolute, Slanted}
 use Rattle.rt_retarget.specs.declared.answer.Fault.{Fault}
@@ -11,14 +11,14 @@ use Rattle.rt_retarget.specs.declared.answer.Fault.TheVariants.{TableToml, BadTa
 use Rattle.rt_retarget.specs.declared.answer.Fault.TheVariants as refused
 use Rattle.rt_retarget.specs.declared.answer.What.{What}
 use Rattle.rt_retarget.specs.declared.answer.What.TheVariants.{Items, Strips}
-use Rattle.rt_retarget.specs.Answers.{IsDone, IsFaultOf}
+use Rattle.rt_retarget.specs.Answers.{IsDone, IsInfeasible, IsFaultOf}
 use Rattle.rt_retarget.specs.Files.{Given}
 use Rattle.rt_tables.specs.Tables.{IsTechOf}
 use Rattle.rt_tech.specs.declared.table.Tech.{Tech}
 use Rattle.rt_tech.specs.declared.table.Which.TheVariants.{Source}
 use Rattle.rt_run.specs.Naming.{rule_names}
 use Rattle.rt_run.specs.declared.answer.Answer.{Answer}
-use Rattle.rt_run.specs.declared.answer.Answer.TheVariants.{Done, Usage, Refused, NotFetched, NotStored, OutOfMemory}
+use Rattle.rt_run.specs.declared.answer.Answer.TheVariants.{Done, Usage, Refused, Infeasible, NotFetched, NotStored, OutOfMemory}
 use Rattle.rt_run.specs.Words.{Names, AreWordsFor}
 use Rattle.rt_run.specs.Fetched.{AreFetched, IsNotFetched, fetched_names}
 
@@ -54,6 +54,7 @@ abbrev pub number_of : Answer → ℕ
 number_of Done = 0
 number_of Usage = 2
 number_of (Refused refusal) = number_of_refusal refusal.fault
+number_of (Infeasible axis) = 8
 number_of (NotFetched file) = number_of_unfetched file.error
 number_of NotStored = 12
 number_of OutOfMemory = 13
@@ -98,6 +99,7 @@ abbrev pub line_of : Answer → List ℕ
 line_of Done = []
 line_of Usage = usage_line
 line_of (Refused refusal) = line_of_refusal refusal.fault refusal.names
+line_of (Infeasible axis) = infeasible_line axis
 line_of (NotFetched file) = unfetched_line file.error file.name.now
 line_of NotStored = []
 line_of OutOfMemory = []
@@ -141,6 +143,7 @@ module _ (contents : Given) where
   MeansOfContents out before after NotStored = IsNotStored out before after
   MeansOfContents out before after (Refused refusal) =
       IsFaultOf contents refusal.fault × AreNamesFor contents.stable refusal.fault refusal.names × (after.files ≡ before.files)
+  MeansOfContents out before after (Infeasible axis) = IsInfeasible contents axis × (after.files ≡ before.files)
   MeansOfContents out before after OutOfMemory = after.files ≡ before.files
   MeansOfContents out before after Usage = ⊥
   MeansOfContents out before after (NotFetched file) = ⊥
@@ -163,6 +166,7 @@ abbrev pub MeansOfNames : Names → Outside → Outside → Answer → Type 0
 MeansOfNames names before after Done = MeansOfFetched names before after Done
 MeansOfNames names before after NotStored = MeansOfFetched names before after NotStored
 MeansOfNames names before after (Refused refusal) = MeansOfFetched names before after (Refused refusal)
+MeansOfNames names before after (Infeasible axis) = MeansOfFetched names before after (Infeasible axis)
 MeansOfNames names before after (NotFetched file) =
     IsNotFetched before after (fetched_names names) file.name.now file.error × (after.files ≡ before.files)
 MeansOfNames names before after OutOfMemory = after.files ≡ before.files
@@ -185,6 +189,7 @@ Means words before after Usage = IsUsage words before after
 Means words before after Done = MeansOfWords words before after Done
 Means words before after NotStored = MeansOfWords words before after NotStored
 Means words before after (Refused refusal) = MeansOfWords words before after (Refused refusal)
+Means words before after (Infeasible axis) = MeansOfWords words before after (Infeasible axis)
 Means words before after (NotFetched file) = MeansOfWords words before after (NotFetched file)
 Means words before after OutOfMemory = MeansOfWords words before after OutOfMemory
 

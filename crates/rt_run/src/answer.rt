@@ -3,7 +3,7 @@ ghost use Rattle.std.specs.Prelude.{◌≡◌};
 ghost use Rattle.rt_run.specs.Answers.{number_of_refusal, number_of_unfetched};
 
 use crate::fetching::Unfetched;
-use rt_base::{List, Text};
+use rt_base::{Axis, List, Text};
 use rt_desk::DeskError;
 use rt_retarget::Fault;
 
@@ -25,6 +25,8 @@ pub enum Answer<'a> {
     Usage,
     /// The files are refused.
     Refused(Refusal),
+    /// No positions meet the template of the axis.
+    Infeasible(Axis),
     /// A file wasn't fetched.
     NotFetched(Unfetched<'a>),
     /// OUT wasn't stored.
@@ -44,6 +46,7 @@ impl<'a> Answer<'a> {
             Answer::Done => 0,
             Answer::Usage => 2,
             Answer::Refused(refusal) => refusal_number(&refusal.fault),
+            Answer::Infeasible(_) => 8,
             Answer::NotFetched(unfetched) => unfetched_number(&unfetched.error),
             Answer::NotStored => 12,
             Answer::OutOfMemory => 13,

@@ -9,6 +9,7 @@ use crate::fetching::{Inputs, fetch_all};
 use crate::naming::names_for;
 use crate::saying::{has_line, say_answer};
 use crate::words::{Retarget, retarget_words};
+use rt_arena::Reads;
 use rt_base::List;
 use rt_desk::{Desk, DeskError};
 use rt_retarget::{Fault, Outcome, retarget};
@@ -26,7 +27,7 @@ const NO_MEMORY: u8 = 13;
 /// The one form is `retarget SOURCE STABLE TTABLE SIZES OUT CERT`: it fetches the first four files, and stores the moved
 /// cell as OUT. The statuses are 0 where OUT is stored; 2 where the words are of no form; 3 where the source isn't a stream
 /// of the format; 4 where a table isn't valid, or the two aren't of one form; 5 where the sizes file isn't valid; 6 where the
-/// cell isn't flattened; 7 where the source breaks a rule of its own table; 11 where a file wasn't fetched; 12 where OUT
+/// cell isn't flattened; 7 where the source breaks a rule of its own table; 8 where no positions meet the template of an axis; 11 where a file wasn't fetched; 12 where OUT
 /// wasn't stored; 13 where there was no memory; 14 where the flat cell has too many rectangles and labels, or its layout too many strips; and 30 where the
 /// files ask for what isn't built yet.
 ///
@@ -86,22 +87,19 @@ fn move_cell<'a, D: Desk>(alloc: Global, files: &Inputs, out: &str, desk: &mut D
     ensures means { MeansOfContents (contents_in files.now) out.now (D.seen desk.old) (D.seen desk.new) result }
     ensures silent { IsSilent (D.seen desk.old) (D.seen desk.new) }
 {
-    let outcome = match retarget(
+    let mut reads = Reads::new(());
+    match retarget(
         alloc,
         &files.source,
         &files.stable,
         &files.ttable,
         &files.sizes,
+        &mut reads,
     ) {
-        Ok(outcome) => outcome,
-        Err(fault) => return refused(alloc, &files.stable, fault),
-    };
-    let Outcome::Done {
-        gds,
-        cert: _cert,
-        report: _report,
-    } = outcome;
-    store_moved(&gds, out, desk)
+        Ok(Outcome::Done { gds, .. }) => store_moved(&gds, out, desk),
+        Ok(Outcome::Infeasible { axis, .. }) => Answer::Infeasible(axis),
+        Err(fault) => refused(alloc, &files.stable, fault),
+    }
 }
 
 // The answer where the files are refused: a broken rule is named by its masks.

@@ -7,7 +7,7 @@ use crate::answer::{Answer, Refusal};
 use gds_flat::Odd;
 use rt_desk::{Desk, DeskError};
 use rt_lines::{
-    BrokenRule, say_array_step, say_bad_stream, say_coordinate_range, say_cyclic,
+    BrokenRule, say_array_step, say_bad_stream, say_coordinate_range, say_cyclic, say_infeasible,
     say_no_such_structure, say_not_built, say_pieces, say_sizes_fault, say_sizes_not_toml,
     say_source_rule, say_table_fault, say_table_not_toml, say_tables_differ, say_too_deep,
     say_too_many, say_unfetched, say_unmapped_layer, say_unsupported, say_usage,
@@ -21,6 +21,7 @@ pub fn has_line(answer: &Answer<'_>) -> bool
     match answer {
         Answer::Usage => true,
         Answer::Refused(refusal) => refusal_has_line(refusal),
+        Answer::Infeasible(_) => true,
         Answer::NotFetched(unfetched) => unfetched.error != DeskError::OutOfMemory,
         Answer::Done | Answer::NotStored | Answer::OutOfMemory => false,
     }
@@ -44,6 +45,7 @@ pub fn say_answer<D: Desk>(answer: &Answer<'_>, desk: &mut D) -> Result<(), Desk
     match answer {
         Answer::Usage => say_usage(desk),
         Answer::Refused(refusal) => say_refusal(refusal, desk),
+        Answer::Infeasible(axis) => say_infeasible(desk, *axis),
         Answer::NotFetched(unfetched) => say_unfetched(desk, &unfetched.error, unfetched.name),
         Answer::Done | Answer::NotStored | Answer::OutOfMemory => say_nothing(desk),
     }

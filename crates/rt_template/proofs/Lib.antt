@@ -1,1 +1,2 @@
-pub mod Separate
+pub mod OneRow
+pub mod Columns

@@ -1,4 +1,3 @@
-pub mod Across
-pub mod Upwards
+pub mod Horizontal
+pub mod Vertical
 pub mod Drawing
-pub mod Separate

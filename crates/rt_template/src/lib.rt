@@ -1,7 +1,6 @@
-//! What is to be moved, and the definitions over it: the rows of the two templates, the drawing of positions, separate strips. Its code is
-//! the struct.
+//! The definitions over what is moved: the rows of the two templates, and the drawing of positions. It has no code but laws.
 #![tactic(auto)]
 
-mod job;
+mod laws;
 
-pub use job::Job;
+pub use laws::{one_row_across, one_row_upwards};

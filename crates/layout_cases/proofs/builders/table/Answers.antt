@@ -1,6 +1,6 @@
 use Rattle.std.proofs.Common.{◌≡◌, [], ◌∷◌, rules, arith}
 use Rattle.std.proofs.lemmas.Int.{ints}
-use Rattle.layout_cases.proofs.Few.{two_masks}
+use Rattle.layout_cases.proofs.TwoMasks.{two_masks}
 use Rattle.layout_cases.proofs.builders.table.Goals as goal
 
 pub returns : goal.returns

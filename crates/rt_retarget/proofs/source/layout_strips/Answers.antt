@@ -1,4 +1,4 @@
-use Rattle.std.proofs.Common.{◌^◌, arith}
+use Rattle.std.proofs.Common.{arith}
 use Rattle.rt_retarget.proofs.source.layout_strips.Goals as goal
 
 pub strips_of-requires-clause-few_masks : goal.strips_of-requires-clause-few_masks

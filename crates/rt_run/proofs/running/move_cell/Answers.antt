@@ -8,8 +8,8 @@ refused-requires g c =
     (refusal_of_lists (contents_in c.args.files.now) _ _ _ _ c.in-Err.fault
     c.deref.ensures.value c.deref-2.ensures.value c.deref-3.ensures.value c.deref-4.ensures.value c.in-Err.ensures.refused)
 
-pub returns-in-Err-clause-means : goal.returns-in-Err-clause-means
-returns-in-Err-clause-means g c =
+pub returns-clause-means : goal.returns-clause-means
+returns-clause-means g c =
     refusal_means (contents_in c.args.files.now) c.args.out.now _ _ c.in-Err.fault c.refused.result c.deref-in-Err.ensures.value
     (refusal_of_lists (contents_in c.args.files.now) _ _ _ _ c.in-Err.fault
     c.deref.ensures.value c.deref-2.ensures.value c.deref-3.ensures.value c.deref-4.ensures.value c.in-Err.ensures.refused)

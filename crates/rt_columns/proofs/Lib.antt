@@ -1,0 +1,11 @@
+mod Adding
+mod Places
+mod Seeing
+mod Climbing
+mod Sets
+mod Crossing
+mod Kept
+mod Orders
+mod Transfer
+mod Showing
+mod Finding

@@ -1,0 +1,4 @@
+pub mod Euclid
+pub mod Lowest
+pub mod Stored
+pub mod Unique

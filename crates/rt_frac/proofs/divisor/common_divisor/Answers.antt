@@ -1,0 +1,11 @@
+use Rattle.std.proofs.Common.{◌≡◌, arith}
+use Rattle.std.proofs.lemmas.Nat.Gcd.{IsGcd-from_mod, IsGcd-from_zero}
+use Rattle.rt_frac.proofs.divisor.common_divisor.Goals as goal
+
+pub loop-less-preserved : goal.loop-less-preserved
+loop-less-preserved c = λ g h. c.loop-less.invariant g (IsGcd-from_mod c.loop-less.greater c.loop-less.less g h)
+
+pub returns : goal.returns
+returns c =
+    let none : c.loop-less.less ≡ 0 = omega arith in
+    c.loop-less.invariant c.loop-less.greater (IsGcd-from_zero c.loop-less.greater c.loop-less.less none)

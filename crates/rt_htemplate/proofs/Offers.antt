@@ -1,0 +1,116 @@
+-- The names that are offered hold all of the template.
+use Rattle.std.proofs.Common.{◌≡◌, ℕ, ◌+◌, ◌≤◌, ℤ, ◌≤ℤ◌, ◌<ℤ◌, List, ◌++◌, length, refl, sym, subst, ◌∙◌, arith, inl, inr}
+use Rattle.std.specs.Prelude.{Contains}
+use Rattle.std.specs.Int.{int_max, int_min}
+use Rattle.std.proofs.lemmas.Bool.{cases_eq}
+use Rattle.std.proofs.lemmas.Int.{ints, clamps}
+use Rattle.std.proofs.lemmas.List.{get_or_default}
+use Rattle.std.proofs.lemmas.List.Elements.{Contains-append_left, Contains-append_right}
+use Rattle.rt_rows.specs.declared.name.Name.{Name}
+use Rattle.rt_rows.specs.declared.name.Name.TheVariants.{Lo, Hi, Zero, Top, Wide, Ll, Rr, Share, Gap}
+use Rattle.rt_rows.specs.declared.row.Row.{Row}
+use Rattle.rt_nets.specs.declared.job.Job.{Job}
+use Rattle.rt_nets.specs.Job.{strips_of}
+use Rattle.rt_strips.specs.declared.contact.Seam.{Seam}
+use Rattle.rt_strips.specs.Placed.{Placed, left_of, right_of}
+use Rattle.rt_strips.specs.Standing.{IsStrip, StandsOn, Touch}
+use Rattle.rt_strips.specs.Seams.{IsSeam, AreSeamsOf}
+use Rattle.rt_template.specs.Horizontal.{RowAcross}
+use Rattle.rt_htemplate.specs.Candidates.{names_of_strip, names_of_seam, names_of_pair, names_at_seam, seam_at, pair_at, names_at_pair, AreOffered, AreOfferedAtSeams, AreOfferedForKept, HoldAllNames}
+use Rattle.rt_htemplate.specs.Near.{HoldKeptPairs}
+
+-- at first none is
+pub none_offered : (names_of : ℕ → List Name) (names : List Name) → AreOffered names_of 0 names names
+none_offered names_of names = record {
+  kept = λ name c. c;
+  offered = λ k h name c. absurd (omega (arith, h));
+}
+
+-- those for one more
+pub more_offered : (names_of : ℕ → List Name) (n : ℕ) (before after : List Name) → AreOffered names_of n before after → AreOffered names_of (n + 1) before (after ++ names_of n)
+more_offered names_of n before after are = record {
+  kept = λ name c. Contains-append_left after (names_of n) name (are.kept name c);
+  offered = λ k h name c. elim (cases_eq k n) [
+    | inl e ↦ Contains-append_right after (names_of n) name (subst (λ m. Contains (names_of m) name) e c)
+    | inr o ↦ Contains-append_left after (names_of n) name (are.offered k (omega (arith, h, o)) name c)
+  ];
+}
+
+-- when all have been seen
+pub all_offered : (names_of : ℕ → List Name) (n count : ℕ) (before after : List Name) → count ≤ n → AreOffered names_of n before after → AreOffered names_of count before after
+all_offered names_of n count before after h are = record {
+  kept = are.kept;
+  offered = λ k g name c. are.offered k (omega (arith, g, h)) name c;
+}
+
+-- the seams' names are those of each seam of the strips
+pub at_seams : (strips : List Placed) (seams : List Seam) (before after : List Name) → AreSeamsOf strips seams → AreOffered (names_at_seam seams) (length seams) before after
+    → AreOfferedAtSeams strips before after
+at_seams strips seams before after are offered = record {
+  kept = offered.kept;
+  offered = λ i j s name c.
+      let seam : Seam = record { below = i; above = j } in
+      let there = are.every i j s in
+      let e : seam_at seams there.0 ≡ seam = get_or_default seams there.0 (record { below = 0; above = 0 }) seam there.1 ∙ there.2 in
+      offered.offered there.0 there.1 name (subst (λ (t : Seam). Contains (names_of_seam t.below t.above) name) (sym e) c);
+}
+
+kept_pair : (pairs : List (ℕ × ℕ)) (before after : List Name) → AreOffered (names_at_pair pairs) (length pairs) before after → (i j : ℕ) (name : Name) → Contains pairs (i, j)
+    → Contains (names_of_pair i j) name → Contains after name
+kept_pair pairs before after offered i j name there c =
+    let pair : ℕ × ℕ = (i, j) in
+    let e : pair_at pairs there.0 ≡ pair = get_or_default pairs there.0 (0, 0) pair there.1 ∙ there.2 in
+    offered.offered there.0 there.1 name (subst (λ (t : ℕ × ℕ). Contains (names_of_pair t.0 t.1) name) (sym e) c)
+
+-- the pairs' names are those of each two strips that keep their distance
+pub for_kept : (job : Job) (pairs : List (ℕ × ℕ)) (before after : List Name) → HoldKeptPairs job pairs → AreOffered (names_at_pair pairs) (length pairs) before after
+    → AreOfferedForKept job before after
+for_kept job pairs before after hold offered = record {
+  kept = offered.kept;
+  offered = λ i j kept. elim (hold.every i j kept) [
+    | inl there ↦ kept_pair pairs before after offered i j (Gap i j) there (0, omega arith, refl)
+    | inr there ↦ kept_pair pairs before after offered j i (Gap i j) there (1, omega arith, refl)
+  ];
+}
+
+left_first : (l r l' r' : ℤ) → int_max l l' <ℤ int_min r r' → l ≤ℤ r'
+left_first l r l' r' h = omega (arith, ints, clamps)
+
+left_second : (l r l' r' : ℤ) → int_max l l' <ℤ int_min r r' → l' ≤ℤ r
+left_second l r l' r' h = omega (arith, ints, clamps)
+
+-- where a strip stands on another is a seam
+seam_there : (strips : List Placed) (i j : ℕ) → StandsOn strips i j → IsSeam strips i j
+seam_there strips i j s = record {
+  one_mask = s.strips_of_one_mask;
+  adjoin = s.adjoin;
+  first = left_first (left_of strips i) (right_of strips i) (left_of strips j) (right_of strips j) s.over.common;
+  second = left_second (left_of strips i) (right_of strips i) (left_of strips j) (right_of strips j) s.over.common;
+}
+
+module _ (job : Job) (first strips seams all : List Name) (zero_there : Contains first Zero) (top_there : Contains first Top)
+    (of_strips : AreOffered names_of_strip (length (strips_of job)) first strips) (of_seams : AreOfferedAtSeams (strips_of job) strips seams)
+    (of_kept : AreOfferedForKept job seams all) where
+  from_first : (name : Name) → Contains first name → Contains all name
+  from_first name c = of_kept.kept name (of_seams.kept name (of_strips.kept name c))
+
+  from_strip : (i : ℕ) (name : Name) → IsStrip (strips_of job) i → Contains (names_of_strip i) name → Contains all name
+  from_strip i name s c = of_kept.kept name (of_seams.kept name (of_strips.offered i s.below_count name c))
+
+  from_touch : (i j : ℕ) (name : Name) → Touch (strips_of job) i j → Contains (names_of_seam i j) name → Contains (names_of_seam j i) name → Contains all name
+  from_touch i j name (inl s) c d = of_kept.kept name (of_seams.offered i j (seam_there (strips_of job) i j s) name c)
+  from_touch i j name (inr s) c d = of_kept.kept name (of_seams.offered j i (seam_there (strips_of job) j i s) name d)
+
+  offered_row : (name : Name) (row : Row) → RowAcross job name row → Contains all name
+  offered_row name row (RowAcross.lo i s) = from_strip i (Lo i) s (0, omega arith, refl)
+  offered_row name row (RowAcross.hi i s) = from_strip i (Hi i) s (1, omega arith, refl)
+  offered_row name row RowAcross.zero = from_first Zero zero_there
+  offered_row name row RowAcross.top = from_first Top top_there
+  offered_row name row (RowAcross.wide i s) = from_strip i (Wide i) s (2, omega arith, refl)
+  offered_row name row (RowAcross.ll i j t _) = from_touch i j (Ll i j) t (0, omega arith, refl) (1, omega arith, refl)
+  offered_row name row (RowAcross.rr i j t _) = from_touch i j (Rr i j) t (2, omega arith, refl) (3, omega arith, refl)
+  offered_row name row (RowAcross.share i j t _ _) = from_touch i j (Share i j) t (4, omega arith, refl) (5, omega arith, refl)
+  offered_row name row (RowAcross.gap i j k) = of_kept.offered i j k
+
+  pub hold_all : HoldAllNames job all
+  hold_all = record { every = λ name a. offered_row name a.0 a.1 }

@@ -1,9 +1,0 @@
-pub mod Exactly
-pub mod Sums
-pub mod Lines
-pub mod Cuts
-pub mod Seen
-pub mod Across
-pub mod Upwards
-pub mod Columns
-pub mod Written

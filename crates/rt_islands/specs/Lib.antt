@@ -1,4 +1,0 @@
-pub mod Items
-pub mod Lines
-pub mod Views
-pub mod Placing

@@ -1,0 +1,4 @@
+pub mod Along
+pub mod Numbered
+pub mod Close
+pub mod Listed

@@ -1,0 +1,4 @@
+pub mod Templates
+pub mod Instances
+pub mod Placed
+pub mod Named

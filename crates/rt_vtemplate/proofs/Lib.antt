@@ -1,0 +1,12 @@
+pub mod Added
+pub mod OfKinds
+pub mod Seams
+pub mod Pairs
+pub mod Columns
+pub mod Upwards
+pub mod Listed
+pub mod Blocked
+pub mod Chained
+pub mod Wholes
+pub mod Closeness
+pub mod Told

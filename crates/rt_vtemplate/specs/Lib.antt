@@ -1,0 +1,6 @@
+pub mod Added
+pub mod Kinds
+pub mod Steps
+pub mod Listing
+pub mod Open
+pub mod Whole

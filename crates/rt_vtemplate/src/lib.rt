@@ -1,0 +1,16 @@
+//! The template upwards, listed: its names at given columns, in order, and its rows.
+#![tactic(auto)]
+
+mod chains;
+mod clear;
+mod close;
+mod found;
+mod names;
+mod nearby;
+mod rows;
+mod sight;
+mod single;
+
+pub use names::rows_v;
+pub use rows::{named_rows_v, row_v};
+pub use single::has_row_v;
