@@ -152,7 +152,7 @@ strip_cell_too f g alike tech m x y c = record {
   ];
 }
 
-strips_too : (f g : Layout) → AreAlike f g → (tech : Tech) (strips : List Placed) → AreLayoutStrips f tech strips → AreLayoutStrips g tech strips
+pub strips_too : (f g : Layout) → AreAlike f g → (tech : Tech) (strips : List Placed) → AreLayoutStrips f tech strips → AreLayoutStrips g tech strips
 strips_too f g alike tech strips are = record {
   on_masks = are.on_masks;
   nonempty = are.nonempty;

@@ -5,3 +5,6 @@ pub mod Stripped
 pub mod Assembled
 pub mod Excluded
 pub mod Moving
+pub mod OneJob
+pub mod SameJobs
+pub mod OneAnswer

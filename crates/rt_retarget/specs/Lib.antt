@@ -4,3 +4,4 @@ pub mod Moved
 pub mod Answers
 pub mod Jobs
 pub mod Ladder
+pub mod OneAnswer

@@ -1,5 +1,7 @@
-//! The laws of this crate, each a function without a body whose contract is the law: what is refused at a stage isn't at the next one.
+//! The laws of this crate, each a function without a body whose contract is the law: what is refused at a stage isn't at the next one, and
+//! where nothing is refused there is one job and one outcome.
 ghost use Rattle.rt_retarget.specs.Ladder.{NoTableIsntRead, BadTableIsntRead, TwoFormsArentRead, NoSizesArentRead, BadSizesArentRead, MoreIsntParsed, NoStreamIsntParsed, UnflattenedIsntLaid, TooManyIsntStripped, UnsoundIsntSound, LabelsArentTaken, StraysArentWished};
+ghost use Rattle.rt_retarget.specs.OneAnswer.{OneJob, InfeasibleIsntDone, InfeasibleAlongOne, DoneIsOne, OneOutcome};
 
 /// Law: files of which a table or the sizes file is refused, or whose tables are of two forms, aren't read.
 pub fn refused_tables_and_sizes_are_not_read()
@@ -24,4 +26,19 @@ pub fn refused_layouts_are_not_moved()
     ensures unsound { UnsoundIsntSound }
     ensures more { LabelsArentTaken }
     ensures strays { StraysArentWished }
+{}
+
+/// Law: files have one job at most, from one library by one list of what is asked for: its view, its tables, its wishes and pairs are the same,
+/// and its table of climbs tells the same of all strips. Only the rows of that table may be of another width, with anything behind the bits of strips.
+pub fn files_have_one_job()
+    ensures { OneJob }
+{}
+
+/// Law: of the outcomes of files, which are all of the last stage, one at most is true. Infeasible files aren't moved, they are infeasible along
+/// one axis alone, and files are moved to the same bytes; so two outcomes are one.
+pub fn files_have_one_outcome()
+    ensures infeasible { InfeasibleIsntDone }
+    ensures axis { InfeasibleAlongOne }
+    ensures bytes { DoneIsOne }
+    ensures one { OneOutcome }
 {}

@@ -12,6 +12,6 @@ mod source;
 pub use answer::{Fault, Outcome, What};
 pub use job::retarget;
 pub use laws::{
-    refused_layouts_are_not_moved, refused_sources_have_no_layout,
-    refused_tables_and_sizes_are_not_read,
+    files_have_one_job, files_have_one_outcome, refused_layouts_are_not_moved,
+    refused_sources_have_no_layout, refused_tables_and_sizes_are_not_read,
 };
