@@ -134,12 +134,6 @@ pub lowered_sum : (changed : Bool) (before after : List ℕ) → Lowered changed
 lowered_sum true before after h = omega (arith, h)
 lowered_sum false before after h = subst (λ t. sum t ≤ sum before) (sym h) (omega arith)
 
--- one change after another
-pub lowered_both : (p q : Bool) (a b c : List ℕ) → Lowered p a b → Lowered q b c → Lowered (p || q) a c
-lowered_both true q a b c h k = omega (arith, h, lowered_sum q b c k)
-lowered_both false true a b c h k = subst (λ t. sum c < sum t) h k
-lowered_both false false a b c h k = k ∙ h
-
 -- one seam more, at which a number changed
 pub seam_changed : (p : Bool) (m : ℕ) (strips : List Placed) (a b c : List ℕ) → Lowered p a b → Lowered true b c → Lowered true a c
 seam_changed p m strips a b c h k = omega (arith, k, lowered_sum p a b h)

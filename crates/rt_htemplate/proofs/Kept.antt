@@ -19,12 +19,6 @@ pub record AreThoseSoFar (job : Job) (offered : List Name) (n : ℕ) (names : Li
   pub each : All (HasAcross job) names
   pub every : (k : ℕ) → k < n → HasAcross job (name_at offered k) → Contains names (name_at offered k)
 
-pub none_so_far : (job : Job) (offered : List Name) → AreThoseSoFar job offered 0 []
-none_so_far job offered = record {
-  each = All-nil (HasAcross job);
-  every = λ k h. absurd (omega (arith, h));
-}
-
 pub one_more : (job : Job) (offered : List Name) (n : ℕ) (names : List Name) → HasAcross job (name_at offered n) → AreThoseSoFar job offered n names
     → AreThoseSoFar job offered (n + 1) (names ++ name_at offered n ∷ [])
 one_more job offered n names has before = record {

@@ -19,13 +19,6 @@ use Rattle.rt_template.specs.Horizontal.{RowAcross}
 use Rattle.rt_htemplate.specs.Candidates.{names_of_strip, names_of_seam, names_of_pair, names_at_seam, seam_at, pair_at, names_at_pair, AreOffered, AreOfferedAtSeams, AreOfferedForKept, HoldAllNames}
 use Rattle.rt_htemplate.specs.Near.{HoldKeptPairs}
 
--- at first none is
-pub none_offered : (names_of : ℕ → List Name) (names : List Name) → AreOffered names_of 0 names names
-none_offered names_of names = record {
-  kept = λ name c. c;
-  offered = λ k h name c. absurd (omega (arith, h));
-}
-
 -- those for one more
 pub more_offered : (names_of : ℕ → List Name) (n : ℕ) (before after : List Name) → AreOffered names_of n before after → AreOffered names_of (n + 1) before (after ++ names_of n)
 more_offered names_of n before after are = record {

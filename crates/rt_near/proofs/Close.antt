@@ -8,27 +8,8 @@ use Rattle.rt_near.specs.Near.{IsInterval}
 use Rattle.rt_near.specs.Entries.{entry_at, no_entry, IsUpTo, AreInOrder, AreIntervals}
 use Rattle.rt_near.specs.Pairs.{ComesWithin, IsClose}
 
-within_near : (low high low' high' reach : ℤ) → low' <ℤ high' → low ≤ℤ low' → pos 0 <ℤ reach → (low' -ℤ high) <ℤ reach → gap_of low high low' high' <ℤ reach
-within_near low high low' high' reach a b h g = omega (arith, ints, clamps)
-
-near_some : (low high low' high' reach : ℤ) → gap_of low high low' high' <ℤ reach → pos 0 <ℤ reach
-near_some low high low' high' reach h = omega (arith, ints, clamps)
-
-near_within : (low high low' high' reach : ℤ) → gap_of low high low' high' <ℤ reach → (low' -ℤ high) <ℤ reach
-near_within low high low' high' reach h = omega (arith, ints, clamps)
-
 near_before : (low high low' high' low'' high'' reach : ℤ) → low' <ℤ high' → low ≤ℤ low' → low' ≤ℤ low'' → gap_of low high low'' high'' <ℤ reach → gap_of low high low' high' <ℤ reach
 near_before low high low' high' low'' high'' reach a b c h = omega (arith, ints, clamps)
-
--- what is close to an entry in order with it begins within its reach
-pub close_within : (a b : Entry) → IsClose a b → ComesWithin a b
-close_within a b c = record { some = near_some a.at.low a.at.high b.at.low b.at.high a.reach c.near; within = near_within a.at.low a.at.high b.at.low b.at.high a.reach c.near }
-
-pub within_close : (a b : Entry) → IsUpTo a b → IsInterval b.at → a.at.group ≡ b.at.group → ComesWithin a b → IsClose a b
-within_close a b up some group c = record {
-  one_group = group;
-  near = within_near a.at.low a.at.high b.at.low b.at.high a.reach some.some (up.lows group) c.some c.within;
-}
 
 same_between : (a b c : ℕ) → a ≤ b → b ≤ c → a ≡ c → a ≡ b
 same_between a b c h g e = omega (arith, h, g, e)

@@ -17,12 +17,6 @@ use Rattle.rt_near.proofs.Close.{none_behind}
 none_yet : (entries : List Entry) (place : ℕ) (pair : ℕ × ℕ) → ¬ IsPairFrom entries place (place + 1) pair
 none_yet entries place pair p = omega (arith, p.later, p.before)
 
--- at first none is added
-pub none_added : (entries : List Entry) (place : ℕ) (before : List (ℕ × ℕ)) → AreAdded entries place (place + 1) before before
-none_added entries place before = record {
-  exact = λ pair. (λ c. inl c, λ s. elim s [ inl c ↦ c | inr p ↦ absurd (none_yet entries place pair p) ]);
-}
-
 still_from : (entries : List Entry) (place end end' : ℕ) (pair : ℕ × ℕ) → end ≤ end' → IsPairFrom entries place end pair → IsPairFrom entries place end' pair
 still_from entries place end end' pair h p = record { other = p.other; later = p.later; before = omega (arith, h, p.before); close = p.close; numbers = p.numbers }
 

@@ -1,10 +1,14 @@
 -- What a breach shows is not so where the rule is kept.
-use Rattle.std.proofs.Common.{◌≡◌, ℤ, pos, ◌+ℤ◌, ◌-ℤ◌, ◌≤ℤ◌, ◌<ℤ◌, arith}
+use Rattle.std.proofs.Common.{◌≡◌, ℤ, pos, ◌+ℤ◌, ◌-ℤ◌, ◌≤ℤ◌, ◌<ℤ◌, subst, arith}
 use Rattle.std.proofs.lemmas.Int.{ints, clamps}
 use Rattle.std.specs.Int.{int_max, int_min}
 use mathlib.Core.Logic.{inl, inr}
 use Rattle.rt_cells.specs.Line.{between}
 use Rattle.rt_cells.specs.Cells.{transposed}
+use Rattle.rt_cells.specs.Rectangles.{Holds}
+use Rattle.rt_cells.proofs.Lines.{first_place}
+use Rattle.rt_rules.specs.Cuts.{IsSquare, KeepsSize, SizeBreach, KeepsEnclosed, EnclosureBreach, KeepsApart, ApartBreach}
+use Rattle.rt_rules.proofs.Pieces.{one_piece}
 use Rattle.rt_rules.specs.Width.{KeepsWidthAlongRows, KeepsWidth, WidthBreachAlongRows, WidthBreach}
 use Rattle.rt_rules.specs.Space.{KeepsGapsAlongRows, KeepsSpace, IsNarrowGap, SpaceBreach}
 
@@ -44,3 +48,29 @@ space_breach_breaks s cells x y u v found (inr (inl b)) k =
       | inr (inr upwards) ↦ too_near_upwards s (between x u) (between y v) found b.gap_found b.short upwards
     ]
 space_breach_breaks s cells x y u v found (inr (inr b)) k = k.corners x y u v b.contact
+
+other_extent : (a b found size : ℤ) → found ≡ (b -ℤ a) → (a +ℤ size) ≡ b → found ≡ size
+other_extent a b found size e h = omega (arith, ints)
+
+-- a breach of the size rule shows that the rule is not kept
+pub size_breach_breaks : (size : ℤ) (cells : ℤ → ℤ → Type 0) (x y u v found : ℤ) → SizeBreach size cells x y u v found → KeepsSize size cells → ⊥
+size_breach_breaks size cells x y u v found b k =
+    let corner : Holds b.r b.r.left b.r.bottom = record { column = first_place _ _ b.piece.nonempty.across; row = first_place _ _ b.piece.nonempty.upwards } in
+    let (square, sized, at) = k b.r.left b.r.bottom (b.piece.inside b.r.left b.r.bottom corner) in
+    let same = one_piece cells square b.r at.piece b.piece b.r.left b.r.bottom at.holds corner in
+    let is : IsSquare size b.r = subst (IsSquare size) same sized in
+    elim b.extent_found [
+      | inl across ↦ b.another (other_extent b.r.left b.r.right found size across is.across)
+      | inr upwards ↦ b.another (other_extent b.r.bottom b.r.top found size upwards is.upwards)
+    ]
+
+-- a breach of the rule of enclosure, and of the rule of distance, shows that the rule is not kept
+pub enclosure_breach_breaks : (number : ℤ) (cells mask : ℤ → ℤ → Type 0) (x y u v found : ℤ) → EnclosureBreach number cells mask x y u v found → KeepsEnclosed number cells mask → ⊥
+enclosure_breach_breaks number cells mask x y u v found b k = b.missing (k x y u v b.first b.within)
+
+pub apart_breach_breaks : (number : ℤ) (cells others : ℤ → ℤ → Type 0) (x y u v found : ℤ) → ApartBreach number cells others x y u v found → KeepsApart number cells others → ⊥
+apart_breach_breaks number cells others x y u v found b k =
+    elim (k x y u v b.first b.second) [
+      | inl across ↦ too_near_across number (between x u) (between y v) found b.gap_found b.short across
+      | inr upwards ↦ too_near_upwards number (between x u) (between y v) found b.gap_found b.short upwards
+    ]

@@ -1,5 +1,5 @@
 -- The rules of a table are those of its masks: each mask's width and space.
-use Rattle.std.proofs.Common.{◌≡◌, ℕ, ◌+◌, ◌<◌, ◌≤◌, ℤ, ◌*ℤ◌, List, [], ◌∷◌, All, arith, length}
+use Rattle.std.proofs.Common.{ℕ, ◌+◌, ◌<◌, ◌≤◌, ℤ, ◌*ℤ◌, List, [], ◌∷◌, All, arith, length}
 use Rattle.std.proofs.lemmas.List.Elements.{All-nil, All-cons}
 use Rattle.rt_tech.specs.declared.rules.RuleName.TheVariants.{Width, Space}
 use Rattle.rt_tech.specs.declared.table.Mask.{Mask}

@@ -1,4 +1,6 @@
 pub mod Width
 pub mod Space
-pub mod Islands
+pub mod Pieces
+pub mod Cuts
+pub mod Pairs
 pub mod Rules

@@ -222,9 +222,6 @@ module _ (first second : List Rectangle) (bottom top : ℤ) where
 pub record IsCommonLoop (first second : List Rectangle) (i j : ℕ) (both : List Rectangle) : Type 0 where
   pub state : (bottom top : ℤ) → AreRow bottom top first → AreRow bottom top second → IsCommonTo first second bottom top i j both
 
-pub common_begins : (first second : List Rectangle) → IsCommonLoop first second 0 0 []
-common_begins first second = record { state = λ bottom top r s. none_common first second bottom top }
-
 pub common_first : (first second : List Rectangle) (i j : ℕ) (both after : List Rectangle) → IsCommonLoop first second i j both → i < length first → j < length second
     → (a b : Rectangle) → area_at first i ≡ a → area_at second j ≡ b → AddsCommon a b both after → a.right <ℤ b.right → IsCommonLoop first second (i + 1) j after
 common_first first second i j both after loop h l a b e f adds ends = record {

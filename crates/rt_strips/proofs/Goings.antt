@@ -6,9 +6,6 @@ use Rattle.rt_strips.specs.declared.one_mask.stack.Going.{Going}
 use Rattle.rt_strips.specs.Stacks.{opened_at, none_opened}
 use Rattle.rt_strips.specs.Goings.{opened}
 
-pub opened_is : (going : List Going) (j : ℕ) (g : Going) → j < length going → g ≡ get_or going j g → opened_at (map opened going) j ≡ opened g
-opened_is going j g h is = get_or-map opened going j g none_opened h ∙ ap opened (sym is)
-
 pub one_more_before : (going : List Going) (from number : ℕ) (left : ℤ) (g : Going) → number < length going → (get_or going number g).at.x1 <ℤ left
     → ((j : ℕ) → from ≤ j → j < number → (opened_at (map opened going) j).left <ℤ left)
     → (j : ℕ) → from ≤ j → j < number + 1 → (opened_at (map opened going) j).left <ℤ left

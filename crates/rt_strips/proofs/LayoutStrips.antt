@@ -7,7 +7,8 @@ use Rattle.rt_layout.specs.Covering.{MaskCovers}
 use Rattle.rt_tech.specs.declared.table.Tech.{Tech}
 use Rattle.rt_tech.specs.Tech.{mask_count}
 use Rattle.rt_strips.specs.Placed.{Placed, left_of, bottom_of, covered_by}
-use Rattle.rt_strips.specs.Channels.{IsPiece, IsChannelCell, IsStripCell, AreLayoutStrips}
+use Rattle.rt_rules.specs.Pieces.{IsPiece}
+use Rattle.rt_strips.specs.Channels.{IsChannelCell, IsStripCell, AreLayoutStrips}
 use Rattle.rt_strips.specs.Laws.{IsChannelStrip}
 use Rattle.rt_strips.proofs.Family.{IsOfMask, box_of}
 use Rattle.rt_strips.proofs.OneList.{held_cell}

@@ -10,42 +10,18 @@ use Rattle.rt_cells.proofs.Lines.{first_place, last_place, antisymmetric, not_be
 use Rattle.rt_cells.proofs.Rectangles.{joined_inside}
 use Rattle.rt_family.specs.Strips as family
 use Rattle.rt_family.proofs.Strips.{neighbours_touch}
+use Rattle.rt_rules.specs.Pieces.{IsPiece}
+use Rattle.rt_rules.proofs.Pieces.{piece_along, stays_in, above_it, piece_row}
 use Rattle.rt_strips.specs.Placed.{Placed, left_of, right_of, bottom_of, top_of}
 use Rattle.rt_strips.specs.Standing.{StandsOn, Touch}
 use Rattle.rt_strips.specs.StripsOf.{AreStripsOf}
-use Rattle.rt_strips.specs.Channels.{IsPiece}
 use Rattle.rt_strips.specs.Untouched.{IsInPiece, IsTouched}
 use Rattle.rt_strips.proofs.Family.{IsOfMask, box_of, covered_by_family, is_family, stands_from_family}
 use Rattle.rt_strips.proofs.Runs.{one_run}
 use Rattle.rt_strips.proofs.OneList.{run_of, holder, held_cell, unstacked_by}
 
--- a piece of some cells is one of others that are the same
-pub piece_along : (cells others : ℤ → ℤ → Type 0) → ((x y : ℤ) → cells x y → others x y) → ((x y : ℤ) → others x y → cells x y) → (r : Rectangle) → IsPiece cells r → IsPiece others r
-piece_along cells others there back r piece = record {
-  nonempty = piece.nonempty;
-  inside = λ x y h. there x y (piece.inside x y h);
-  alone = λ x y u v h side c. piece.alone x y u v h side (back u v c);
-}
-
 pub in_piece_along : (cells others : ℤ → ℤ → Type 0) → ((x y : ℤ) → cells x y → others x y) → ((x y : ℤ) → others x y → cells x y) → (x y : ℤ) → IsInPiece cells x y → IsInPiece others x y
 in_piece_along cells others there back x y c = record { piece = c.piece; is_piece = piece_along cells others there back c.piece c.is_piece; holds = c.holds }
-
--- what is joined to a cell of a piece lies in it
-pub stays_in : (cells : ℤ → ℤ → Type 0) (r : Rectangle) → IsPiece cells r → (x y u v : ℤ) → Holds r x y → Joined cells x y u v → Holds r u v
-stays_in cells r piece x y u v h (here c) = h
-stays_in cells r piece x y u v h (onward p q _ _ walk side c) = piece.alone p q u v (stays_in cells r piece x y p q h walk) side c
-
-above_it : (z : ℤ) → z ≡ (z -ℤ pos 1) +ℤ pos 1
-above_it z = omega (arith, ints)
-
--- a row of a piece is a run
-pub piece_row : (cells : ℤ → ℤ → Type 0) (r : Rectangle) → IsPiece cells r → (y : ℤ) → Within r.bottom r.top y → IsRun (row_of cells y) r.left r.right
-piece_row cells r piece y h = record {
-  nonempty = piece.nonempty.across;
-  inside = λ x k. piece.inside x y (record { column = k; row = h });
-  before = λ c. not_before r.left r.right (piece.alone r.left y (r.left -ℤ pos 1) y (record { column = first_place _ _ piece.nonempty.across; row = h }) (inl (inr (above_it r.left), refl)) c).column;
-  after = λ c. not_after r.left r.right (piece.alone (r.right -ℤ pos 1) y r.right y (record { column = last_place _ _ piece.nonempty.across; row = h }) (inl (inl (above_it r.right), refl)) c).column;
-}
 
 module _ (cells : ℕ → ℤ → ℤ → Type 0) (masks : ℕ) (strips : List Placed) (are : AreStripsOf cells masks strips) (m : ℕ) (below : m < masks) where
   corner : (i : ℕ) → IsOfMask strips m i → Holds (box_of strips i) (left_of strips i) (bottom_of strips i)

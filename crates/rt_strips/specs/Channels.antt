@@ -1,9 +1,9 @@
 -- Channels that are rectangles, and what strips are of in a layout: the masks, and such channels behind them.
 use Rattle.std.specs.Prelude.{◌≡◌, ℕ, suc, ◌<◌, ℤ, ◌⊎◌, Some, List, length, map, min, ◌^◌, ◌-◌}
-use Rattle.rt_cells.specs.Cells.{ShareSide}
-use Rattle.rt_cells.specs.Rectangles.{Rectangle, IsNonempty, Holds}
+use Rattle.rt_cells.specs.Rectangles.{Rectangle, Holds}
 use Rattle.rt_layout.specs.declared.layout.Layout.{Layout}
 use Rattle.rt_layout.specs.Covering.{MaskCovers}
+use Rattle.rt_rules.specs.Pieces.{IsPiece}
 use Rattle.rt_tech.specs.declared.table.Mask.{Mask}
 use Rattle.rt_tech.specs.declared.table.Role.{Role as MaskRole}
 use Rattle.rt_tech.specs.declared.table.Role.TheVariants.{Gate, Active}
@@ -29,12 +29,6 @@ pub record IsChannelCell (layout : Layout) (tech : Tech) (x y : ℤ) : Type 0 wh
   pub is_active : IsOfRole tech Active active
   pub in_gate : MaskCovers layout gate x y
   pub in_active : MaskCovers layout active x y
-
--- the rectangle is a piece of the cells: all its cells are among them, and none of them shares a side with it from outside
-pub record IsPiece (cells : ℤ → ℤ → Type 0) (r : Rectangle) : Type 0 where
-  pub nonempty : IsNonempty r
-  pub inside : (x y : ℤ) → Holds r x y → cells x y
-  pub alone : (x y u v : ℤ) → Holds r x y → ShareSide x y u v → cells u v → Holds r u v
 
 -- the cell lies in a channel that is a rectangle
 pub record IsInChannel (layout : Layout) (tech : Tech) (x y : ℤ) : Type 0 where

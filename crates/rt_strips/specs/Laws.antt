@@ -7,7 +7,8 @@ use Rattle.rt_tech.specs.declared.table.Tech.{Tech}
 use Rattle.rt_tech.specs.Tech.{mask_count}
 use Rattle.rt_strips.specs.Placed.{Placed, strip_at, mask_of, covered_by}
 use Rattle.rt_strips.specs.Standing.{IsStrip}
-use Rattle.rt_strips.specs.Channels.{IsPiece, IsChannelCell, AreLayoutStrips}
+use Rattle.rt_rules.specs.Pieces.{IsPiece}
+use Rattle.rt_strips.specs.Channels.{IsChannelCell, AreLayoutStrips}
 
 -- two lists that are the strips of a layout are the same list
 abbrev pub OneListOfStrips : Type 0

@@ -5,7 +5,7 @@ use Rattle.rt_strips.specs.declared.meeting.Meeting.{Meeting}
 use Rattle.rt_strips.specs.declared.tally.Tally.{Tally}
 use Rattle.rt_strips.specs.Placed.{Placed, strip_at}
 use Rattle.rt_strips.specs.Standing.{StandsOn, Touch}
-use Rattle.rt_strips.specs.Channels.{IsPiece}
+use Rattle.rt_rules.specs.Pieces.{IsPiece}
 use Rattle.rt_strips.specs.Tallies.{IsTallyOf}
 
 -- the cell lies in a piece of the cells that is a rectangle

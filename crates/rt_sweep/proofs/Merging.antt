@@ -26,14 +26,6 @@ none_read bars row = record {
   before = All-nil (λ (written : Bar). (k : ℕ) (d : Bar) → 0 ≤ k → k < length bars → written.at.x1 ≤ℤ (get_or bars k d).at.x1);
 }
 
-pub none_merged : (going beginning : List Bar) (row : ℤ) → IsMergedTo going 0 beginning 0 row []
-none_merged going beginning row = record {
-  first = none_read going row;
-  second = none_read beginning row;
-  each = All-nil (λ (bar : Bar). (Contains going bar ⊎ Contains beginning bar) × (row <ℤ bar.at.y2));
-  across = λ i j d h k. absurd (omega arith);
-}
-
 turned : (A B : Type 0) → A ⊎ B → B ⊎ A
 turned A B (inl a) = inr a
 turned A B (inr b) = inl b

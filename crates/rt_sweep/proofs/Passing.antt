@@ -32,18 +32,6 @@ part_length bars from end h = simp (length-take, length-drop) (omega arith)
 part_at : (bars : List Bar) (from end k : ℕ) (d : Bar) → k < end - from → get_or (take (end - from) (drop from bars)) k d ≡ get_or bars (from + k) d
 part_at bars from end k d h = get_or-take (end - from) (drop from bars) k d h ∙ get_or-drop from bars k d
 
--- where no bar is left, all bars have ended
-pub none_is_left : (bars : List Bar) (next : ℕ) (height highest : ℤ) (active : List Bar) → IsSwept bars next height highest active
-    → NoneIsLeft bars next active height → AreBelow bars height
-none_is_left bars next height highest active swept none = λ k d l.
-    let bar = get_or bars k d in
-    by_lt_z height bar.at.y2
-    (λ h. absurd (
-    let began : HasBegun bars height bar = record { listed = Contains-get_or bars k d l; below = swept.begun k d (omega (arith, none.begun)) } in
-    let ended : bar.at.y2 ≤ℤ height = All-contains (λ (b : Bar). b.at.y2 ≤ℤ height) active bar none.ended (swept.each bar began h) in
-    omega (arith, ints)))
-    (λ h. h)
-
 -- the bars on which the sweep goes on
 module _ (bars : List Bar) (next : ℕ) (height highest : ℤ) (active : List Bar) (swept : IsSwept bars next height highest active)
     (bottom : ℤ) (start : IsNextBottom bars next active height bottom) (end : ℕ) (row : AreFirstRows bars next bottom end) where

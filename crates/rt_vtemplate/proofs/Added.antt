@@ -55,10 +55,6 @@ added_as kind other a b f l r = record {
 none_below : (k : ℕ) → k < 0 → ⊥
 none_below k l = omega arith
 
--- of no numbers
-pub added_first : (kind : ℕ → Name → Type 0) (names : List Name) → AreAdded (IsOfFirst kind 0) names names
-added_first kind names = added_none (IsOfFirst kind 0) names (λ name f. none_below f.number f.below)
-
 -- of one more number
 pub added_more : (kind : ℕ → Name → Type 0) (n : ℕ) (a b c : List Name) → AreAdded (IsOfFirst kind n) a b → AreAdded (kind n) b c → AreAdded (IsOfFirst kind (n + 1)) a c
 added_more kind n a b c f g =

@@ -34,19 +34,6 @@ rows_too_high a b c h l = lower_than b.at.y1 c.at.y2 h l.below_second
 
 pub ruleset in_rows = (rows_between, rows_other_mask, rows_too_low, rows_too_high)
 
--- the strips that the code reads are those of the numbers
-pub in_rows_by_number : (strips : List Strip) (i j k : ℕ) (a b c : Strip) → i < length strips → j < length strips → k < length strips
-    → a ≡ get_or strips i a → b ≡ get_or strips j b → c ≡ get_or strips k c
-    → (v : Bool) → MatchBool v (LiesInRows (placed a) (placed b) (placed c)) (¬ LiesInRows (placed a) (placed b) (placed c))
-    → MatchBool v (AreInRows (map placed strips) i j k) (¬ AreInRows (map placed strips) i j k)
-in_rows_by_number strips i j k a b c h g l e f d v m =
-    let p = strip_is strips i a h e in
-    let q = strip_is strips j b g f in
-    let r = strip_is strips k c l d in
-    subst (λ (s : Placed). MatchBool v (LiesInRows s (strip_at (map placed strips) j) (strip_at (map placed strips) k)) (¬ LiesInRows s (strip_at (map placed strips) j) (strip_at (map placed strips) k))) (sym p)
-    (subst (λ (s : Placed). MatchBool v (LiesInRows (placed a) s (strip_at (map placed strips) k)) (¬ LiesInRows (placed a) s (strip_at (map placed strips) k))) (sym q)
-    (subst (λ (s : Placed). MatchBool v (LiesInRows (placed a) (placed b) s) (¬ LiesInRows (placed a) (placed b) s)) (sym r) m))
-
 -- a place is before another or isn't
 pub cases_before : (x y : ℤ) → (y <ℤ x) ⊎ (x ≤ℤ y)
 cases_before (pos a) (pos b) = elim (cases_lt b a) [ inl h ↦ inl (omega (arith, ints)) | inr h ↦ inr (omega (arith, ints)) ]
