@@ -8,10 +8,10 @@ use std::process::ExitCode;
 use std::{env, io};
 
 // The status where OUT wasn't stored.
-const NOT_STORED: Status = Status(12);
+const NOT_STORED: Status = Status(rt_run::NOT_STORED);
 
 // The status where there was no memory.
-const NO_MEMORY: Status = Status(13);
+const NO_MEMORY: Status = Status(rt_run::NO_MEMORY);
 
 // The status where the words can't be had, but not for want of memory.
 const NO_WORDS: Status = Status(15);

@@ -2,3 +2,4 @@ pub mod Templates
 pub mod Instances
 pub mod Placed
 pub mod Named
+pub mod Ordered

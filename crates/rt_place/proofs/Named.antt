@@ -74,7 +74,3 @@ held template rows lists = record {
   exact = λ name row. (λ c. All-contains (λ (named : Name × Row). template named.0 named.1) rows (name, row) lists.each c, λ r. lists.every name row r);
   once = named_once rows lists.in_order;
 }
-
--- the template has each name of its list
-pub has_each : (job : Job) (names : List Name) (i : ℕ) (name : Name) → i < length names → name ≡ get_or names i name → ListsNames (HasAcross job) names → HasAcross job name
-has_each job names i name h is lists = subst (HasAcross job) (sym is) (lists.each i name h)

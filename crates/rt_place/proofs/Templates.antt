@@ -43,7 +43,7 @@ pub record IsSmallName (name : Name) : Type 0 where
 abbrev place : ℕ → ℕ → ℕ → ℕ → Place
 place kind first second third = record { kind = kind; first = first; second = second; third = third }
 
-same_place : (p q : Place) → p.kind ≡ q.kind → p.first ≡ q.first → p.second ≡ q.second → p.third ≡ q.third → p ≡ q
+pub same_place : (p q : Place) → p.kind ≡ q.kind → p.first ≡ q.first → p.second ≡ q.second → p.third ≡ q.third → p ≡ q
 same_place p q a b c d =
     ap (λ (n : ℕ). place n p.first p.second p.third) a ∙ ap (λ (n : ℕ). place q.kind n p.second p.third) b ∙ ap (λ (n : ℕ). place q.kind q.first n p.third) c
     ∙ ap (λ (n : ℕ). place q.kind q.first q.second n) d
@@ -106,7 +106,7 @@ below_four : (a b : ℕ) → 4 ≤ a → b < 4 → a ≡ b → ⊥
 below_four a b h g e = omega (arith, h, g, e)
 
 -- what holds of all pairs of a list holds of all pairs of its image
-pairs_mapped : {X Y : Type 0} → (f : X → Y) (R : Y → Y → Type 0) (xs : List X) → AllPairs (λ a b. R (f a) (f b)) xs → AllPairs R (map f xs)
+pub pairs_mapped : {X Y : Type 0} → (f : X → Y) (R : Y → Y → Type 0) (xs : List X) → AllPairs (λ a b. R (f a) (f b)) xs → AllPairs R (map f xs)
 pairs_mapped f R [] pairs i j d h g = absurd (omega (arith, g))
 pairs_mapped f R (x ∷ xs) pairs i j d h g =
     let l : j < length (x ∷ xs) = subst (λ n. j < n) (length-map (x ∷ xs) f) g in

@@ -1,6 +1,7 @@
 //! The positions of a job: the least that meet the template across, and at their columns the least that meet the template upwards.
 #![tactic(auto)]
 
+mod order;
 mod placing;
 mod rows;
 

@@ -7,6 +7,7 @@ ghost use Rattle.rt_template.specs.Horizontal.{RowAcross, HasAcross};
 ghost use Rattle.rt_template.specs.Vertical.{RowUpwards, HaveColumns};
 ghost use Rattle.rt_place.specs.Placing.{HoldsRows, AreRowsOf};
 
+use crate::order::in_source_order;
 use rt_base::{List, OutOfMemory};
 use rt_htemplate::{has_row_h, rows_h};
 use rt_nets::Job;
@@ -14,14 +15,16 @@ use rt_rows::{Name, Positions, Row};
 use rt_vtemplate::named_rows_v;
 use std::alloc::Global;
 
-// The rows of the template across.
+// The rows of the template across, in the order of the source.
 pub(crate) fn rows_across(alloc: Global, job: &Job) -> Result<List<(Name, Row)>, OutOfMemory>
     requires job { IsJob job.now }
     ensures { IfOk result (HoldsRows (RowAcross job.now)) }
 {
     let names = rows_h(alloc, job)?;
     let rows = with_rows(alloc, job, names.as_slice())?;
-    Ok(rows)
+    let strips = job.view.strips.list.as_slice();
+    let ordered = in_source_order(alloc, strips, rows.as_slice())?;
+    Ok(ordered)
 }
 
 // The names, each with its row.
@@ -50,7 +53,7 @@ fn row_named(job: &Job, name: &Name) -> Row
     }
 }
 
-// The rows of the template upwards at the columns.
+// The rows of the template upwards at the columns, in the order of the source.
 pub(crate) fn rows_upwards(
     alloc: Global,
     job: &Job,
@@ -61,5 +64,7 @@ pub(crate) fn rows_upwards(
     ensures { IfOk result (HoldsRows (RowUpwards job.now (places columns.now))) }
 {
     let rows = named_rows_v(alloc, job, columns)?;
-    Ok(rows)
+    let strips = job.view.strips.list.as_slice();
+    let ordered = in_source_order(alloc, strips, rows.as_slice())?;
+    Ok(ordered)
 }

@@ -19,6 +19,7 @@ use Rattle.rt_tech.specs.declared.table.Which.TheVariants.{Source}
 use Rattle.rt_run.specs.Naming.{rule_names}
 use Rattle.rt_run.specs.declared.answer.Answer.{Answer}
 use Rattle.rt_run.specs.declared.answer.Answer.TheVariants.{Done, Usage, Refused, Infeasible, NotFetched, NotStored, OutOfMemory}
+use Rattle.rt_run.specs.declared.answer.TheConstants.{NOT_STORED, NO_MEMORY}
 use Rattle.rt_run.specs.Words.{Names, AreWordsFor}
 use Rattle.rt_run.specs.Fetched.{AreFetched, IsNotFetched, fetched_names}
 
@@ -39,7 +40,7 @@ number_of_refusal (CoordinateRange offset) = 6
 number_of_refusal TooDeep = 6
 number_of_refusal (SourceRule rule p q found needed) = 7
 number_of_refusal (TooMany what count) = 14
-number_of_refusal refused.OutOfMemory = 13
+number_of_refusal refused.OutOfMemory = NO_MEMORY
 number_of_refusal NotBuilt = 30
 
 -- the status where a file wasn't fetched, by the error of the fetch
@@ -47,7 +48,7 @@ abbrev pub number_of_unfetched : DeskError → ℕ
 number_of_unfetched unfetched.Failed = 11
 number_of_unfetched unfetched.Missing = 11
 number_of_unfetched unfetched.TooLong = 11
-number_of_unfetched unfetched.OutOfMemory = 13
+number_of_unfetched unfetched.OutOfMemory = NO_MEMORY
 
 -- the status of each answer
 abbrev pub number_of : Answer → ℕ
@@ -56,8 +57,8 @@ number_of Usage = 2
 number_of (Refused refusal) = number_of_refusal refusal.fault
 number_of (Infeasible axis) = 8
 number_of (NotFetched file) = number_of_unfetched file.error
-number_of NotStored = 12
-number_of OutOfMemory = 13
+number_of NotStored = NOT_STORED
+number_of OutOfMemory = NO_MEMORY
 
 -- what isn't taken in an element, as its variant is spelled
 abbrev pub odd_word : Odd → List ℕ
@@ -203,7 +204,7 @@ pub record IsSilent (before after : Outside) : Type 0 where
 pub data Ends (old new : Outside) (line : List ℕ) (number : ℕ) : ℕ → Type 0 where
   said : IsSaid old new line → Ends old new line number number
   failed : IsFailedSay old new line → Ends old new line number number
-  no_memory : (line ≡ [] → ⊥) → (count : ℕ) → IsSaidInPart old new line count → Ends old new line number 13
+  no_memory : (line ≡ [] → ⊥) → (count : ℕ) → IsSaidInPart old new line count → Ends old new line number NO_MEMORY
 
 -- a run: all that its answer means holds, and the answer's line and status end it
 pub record IsRunOf (words : List (List ℕ)) (before after : Outside) (status : ℕ) : Type 0 where

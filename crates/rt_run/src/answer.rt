@@ -7,6 +7,12 @@ use rt_base::{Axis, List, Text};
 use rt_desk::DeskError;
 use rt_retarget::Fault;
 
+/// The exit status where OUT wasn't stored.
+pub const NOT_STORED: u8 = 12;
+
+/// The exit status where there was no memory.
+pub const NO_MEMORY: u8 = 13;
+
 /// A refusal of the files, with what its line needs.
 #[derive(Drop)]
 pub struct Refusal {
@@ -48,8 +54,8 @@ impl<'a> Answer<'a> {
             Answer::Refused(refusal) => refusal_number(&refusal.fault),
             Answer::Infeasible(_) => 8,
             Answer::NotFetched(unfetched) => unfetched_number(&unfetched.error),
-            Answer::NotStored => 12,
-            Answer::OutOfMemory => 13,
+            Answer::NotStored => NOT_STORED,
+            Answer::OutOfMemory => NO_MEMORY,
         }
     }
 }
@@ -70,7 +76,7 @@ fn refusal_number(fault: &Fault) -> u8
         | Fault::CoordinateRange { .. }
         | Fault::TooDeep => 6,
         Fault::SourceRule { .. } => 7,
-        Fault::OutOfMemory => 13,
+        Fault::OutOfMemory => NO_MEMORY,
         Fault::TooMany { .. } => 14,
         Fault::NotBuilt => 30,
     }
@@ -82,6 +88,6 @@ fn unfetched_number(error: &DeskError) -> u8
 {
     match error {
         DeskError::Failed | DeskError::Missing | DeskError::TooLong => 11,
-        DeskError::OutOfMemory => 13,
+        DeskError::OutOfMemory => NO_MEMORY,
     }
 }

@@ -8,4 +8,5 @@ mod running;
 mod saying;
 mod words;
 
+pub use answer::{NO_MEMORY, NOT_STORED};
 pub use running::{Status, run};

@@ -4,7 +4,7 @@ ghost use Rattle.rt_run.specs.Words.{bytes_of};
 ghost use Rattle.rt_run.specs.Given.{names_in, contents_in};
 ghost use Rattle.rt_run.specs.Answers.{Means, MeansOfNames, MeansOfContents, MeansOfStore, IsBrokenIn, MeansOfRefusal, IsRunOf, IsSilent, Ends, line_of, number_of};
 
-use crate::answer::{Answer, Refusal};
+use crate::answer::{Answer, NO_MEMORY, Refusal};
 use crate::fetching::{Inputs, fetch_all};
 use crate::naming::names_for;
 use crate::saying::{has_line, say_answer};
@@ -18,9 +18,6 @@ use std::alloc::Global;
 /// The exit status of the program.
 #[derive(Clone, Copy, Debug, PartialEq, Eq, Drop)]
 pub struct Status(pub u8);
-
-// The status where there was no memory.
-const NO_MEMORY: u8 = 13;
 
 /// Runs the program on the words behind its name.
 ///
