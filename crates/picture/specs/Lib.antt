@@ -1,0 +1,3 @@
+pub mod Scale
+pub mod Escapes
+pub mod Outcome
