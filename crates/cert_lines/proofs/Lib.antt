@@ -1,0 +1,4 @@
+-- Lemmas on lines.
+pub mod Decimals
+pub mod Splitting
+pub mod Guessed

@@ -1,0 +1,5 @@
+pub mod Lines
+pub mod Written
+pub mod Limits
+pub mod Guesses
+pub mod Read

@@ -1,0 +1,6 @@
+pub mod Claims
+pub mod Beginnings
+pub mod Wants
+pub mod Stages
+pub mod Texts
+pub mod Reached
