@@ -6,5 +6,6 @@ mod frac;
 mod laws;
 mod sizes;
 
+pub use divisor::common_divisor;
 pub use frac::Frac;
 pub use laws::one_fraction;

@@ -1,0 +1,4 @@
+pub mod Totals
+pub mod Proportional
+pub mod Factors
+pub mod Exchanges

@@ -1,0 +1,4 @@
+pub mod Lines
+pub mod Systems
+pub mod Tables
+pub mod Laws

@@ -1,0 +1,16 @@
+pub mod Divisors
+pub mod Quotients
+pub mod Combined
+pub mod Firsts
+pub mod Updated
+pub mod Signs
+pub mod NewLines
+pub mod Pivoted
+pub mod Starting
+pub mod StartLines
+pub mod Told
+pub mod AddedLines
+pub mod AddedRows
+pub mod Excluding
+pub mod OneEntry
+pub mod Branches

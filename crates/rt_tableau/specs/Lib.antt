@@ -1,0 +1,9 @@
+pub mod Numbers
+pub mod States
+pub mod Tables
+pub mod Turned
+pub mod Refusals
+pub mod Starts
+pub mod Costs
+pub mod Added
+pub mod Laws
