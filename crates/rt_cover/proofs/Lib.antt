@@ -1,0 +1,5 @@
+mod Reading
+mod Reaching
+mod Looking
+mod Listing
+mod Telling
