@@ -9,3 +9,7 @@ pub mod Going
 pub mod Staging
 pub mod Reaching
 pub mod Parting
+pub mod Builders
+pub mod Again
+pub mod Taken
+pub mod OneText

@@ -1,11 +1,12 @@
 -- A text as its lines and what stands behind the last line feed.
-use Rattle.std.proofs.Common.{◌≡◌, ◌≢◌, ℕ, suc, zero, ◌+◌, ◌<◌, ◌==◌, Bool, true, false, cond, ◌⊎◌, inl, inr, List, [], ◌∷◌, ◌++◌, length, take, drop, get_or, All, sym, ap, subst, ◌∙◌, append_assoc, take-append-drop, refl, arith}
+use Rattle.std.proofs.Common.{◌≡◌, ◌≢◌, ℕ, suc, zero, ◌+◌, ◌<◌, ◌==◌, Bool, true, false, cond, ◌⊎◌, inl, inr, List, [], ◌∷◌, ◌++◌, length, take, drop, get_or, All, sym, ap, subst, ◌∙◌, append_assoc, take-append-drop, refl, arith, Bor}
 use Rattle.std.specs.List.{flat_map, slice_split, onto_first}
 use Rattle.std.proofs.lemmas.Bool.Decides.{eqb_tells}
-use Rattle.std.proofs.lemmas.List.{length-take-le, take_more}
+use Rattle.std.proofs.lemmas.List.{length-take-le, take_more, length-map, map-append}
 use Rattle.std.proofs.lemmas.List.Concat.{flat_map-append}
 use Rattle.std.proofs.lemmas.List.Elements.{All-cons}
 use Rattle.std.proofs.Math.Seq.{drop-cons, take-length}
+use Rattle.cert_lines.specs.Guesses.{bytes_of}
 use Rattle.cert_lines.specs.Read.{IsLine, IsNoLine}
 use Rattle.cert_text.specs.declared.stage.Stage.{Stage}
 use Rattle.cert_text.specs.declared.stage.Stage.TheVariants.{Title}
@@ -89,6 +90,30 @@ is_parted text lines last split =
       each = subst (All IsOneLine) same.0 known.each;
       one = subst IsOneLine same.1 known.one;
     }
+
+-- the parts that code finds
+pub parts_known : (text : List ℕ) (items parts whole : List (Bor (List ℕ))) (last : Bor (List ℕ)) → bytes_of items ≡ slice_split is_feed text → parts ≡ items
+    → parts ≡ whole ++ last ∷ [] → IsParted text (bytes_of whole) last.now
+parts_known text items parts whole last split same is =
+    is_parted text (bytes_of whole) last.now (sym split ∙ ap bytes_of (sym same) ∙ ap bytes_of is ∙ map-append (λ (w : Bor (List ℕ)). w.now) whole (last ∷ []))
+
+-- there is a part
+pub some_parts : (text : List ℕ) (items parts : List (Bor (List ℕ))) → bytes_of items ≡ slice_split is_feed text → parts ≡ items → length parts ≡ 0 → ⊥
+some_parts text items [] split same is =
+    let known = parts text in
+    none known.lines known.last (ap bytes_of same ∙ split ∙ known.split)
+  where
+    none : (lines : List (List ℕ)) (last : List ℕ) → [] ≡ lines ++ last ∷ [] → ⊥
+    none [] last e = cc
+    none (l ∷ lines) last e = cc
+some_parts text items (p ∷ found) split same is = absurd (omega (arith, is))
+
+-- as many texts as words of code
+pub many : (words : List (Bor (List ℕ))) → length (bytes_of words) ≡ length words
+many words = length-map words (λ (w : Bor (List ℕ)). w.now)
+
+pub within : (words : List (Bor (List ℕ))) (i : ℕ) → i < length words → i < length (bytes_of words)
+within words i lt = omega (arith, many words, lt)
 
 -- of the first ones each has what all have
 first_have : (xs : List (List ℕ)) (i : ℕ) → All IsOneLine xs → All IsOneLine (take i xs)

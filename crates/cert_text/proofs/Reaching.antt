@@ -21,7 +21,7 @@ use Rattle.cert_text.proofs.Values.{are_lines}
 use Rattle.cert_text.proofs.Going.{goes_on, stuck_here, not_all, one_further}
 
 -- bytes up to the first line feed are the same, and so are those behind it
-same_cut : (a b x y : List ℕ) → feedless a ≡ true → feedless b ≡ true → a ++ 10 ∷ x ≡ b ++ 10 ∷ y → (a ≡ b) × (x ≡ y)
+pub same_cut : (a b x y : List ℕ) → feedless a ≡ true → feedless b ≡ true → a ++ 10 ∷ x ≡ b ++ 10 ∷ y → (a ≡ b) × (x ≡ y)
 same_cut [] [] x y first second e = (refl, cc)
 same_cut [] (c ∷ b) x y first second e = let same : 10 ≡ c = cc e in let f : feedless (10 ∷ b) ≡ true = subst (λ (k : ℕ). feedless (k ∷ b) ≡ true) (sym same) second in absurd (cc)
 same_cut (c ∷ a) [] x y first second e = let same : c ≡ 10 = cc e in let f : feedless (10 ∷ a) ≡ true = subst (λ (k : ℕ). feedless (k ∷ a) ≡ true) same first in absurd (cc)
@@ -38,17 +38,17 @@ same_cut (c ∷ a) (d ∷ b) x y first second e =
         later false q e = absurd (cc)
 
 -- a text without a line feed
-one_line_feedless : (text : List ℕ) → IsOneLine text → feedless text ≡ true
+pub one_line_feedless : (text : List ℕ) → IsOneLine text → feedless text ≡ true
 one_line_feedless [] all = refl
 one_line_feedless (c ∷ cs) all =
     ap (λ (b : Bool). not b && feedless cs) (ne_eqb c 10 (all 0 0 (omega arith))) ∙ one_line_feedless cs (λ k d lt. all (suc k) d (omega arith))
 
 -- the text of one line and more
-line_and_more : (l : Line) (lines : List Line) → flat_map line_text (l ∷ lines) ≡ spoken (words_of l) ++ 10 ∷ flat_map line_text lines
+pub line_and_more : (l : Line) (lines : List Line) → flat_map line_text (l ∷ lines) ≡ spoken (words_of l) ++ 10 ∷ flat_map line_text lines
 unfolding line_text
 line_and_more l lines = append_assoc (spoken (words_of l)) (10 ∷ []) (flat_map line_text lines)
 
-ended_and_more : (text : List ℕ) (rest : List ℕ) → ended text ++ rest ≡ text ++ 10 ∷ rest
+pub ended_and_more : (text : List ℕ) (rest : List ℕ) → ended text ++ rest ≡ text ++ 10 ∷ rest
 ended_and_more text rest = append_assoc text (10 ∷ []) rest
 
 -- what has been read is text of its lines
@@ -156,7 +156,7 @@ has_feed (c ∷ a) x e = has_feed a x (later (not (c == 10)) (feedless (a ++ 10 
     later false q e = absurd (cc)
 
 -- lines without a line feed are none
-no_lines : (lines : List Line) (last : List ℕ) → IsOneLine last → flat_map line_text lines ≡ last → (lines ≡ []) × (last ≡ [])
+pub no_lines : (lines : List Line) (last : List ℕ) → IsOneLine last → flat_map line_text lines ≡ last → (lines ≡ []) × (last ≡ [])
 no_lines [] last one e = (refl, sym e)
 no_lines (l ∷ lines) last one e =
     absurd (has_feed (spoken (words_of l)) (flat_map line_text lines) (subst (λ (s : List ℕ). feedless s ≡ true) (sym (sym (line_and_more l lines) ∙ e)) (one_line_feedless last one)))

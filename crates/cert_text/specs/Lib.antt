@@ -4,3 +4,5 @@ pub mod Wants
 pub mod Stages
 pub mod Texts
 pub mod Reached
+pub mod Building
+pub mod Taking

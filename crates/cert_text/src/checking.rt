@@ -25,8 +25,8 @@ pub fn first_bad_line(alloc: Global, text: &[u8]) -> Result<Option<u64>, OutOfMe
     }
 }
 
-// The parts of a text between its line feeds.
-fn parts_of(alloc: Global, text: &[u8]) -> Result<Vec<&[u8]>, AllocError>
+/// The parts of a text between its line feeds.
+pub fn parts_of(alloc: Global, text: &[u8]) -> Result<Vec<&[u8]>, AllocError>
     ensures { IfOk result (λ parts. bytes_of parts.items ≡ slice_split (λ byte. byte == 10) text.now) }
 {
     text.split(|byte| *byte == b'\n').collect(alloc)

@@ -1,15 +1,9 @@
-use Rattle.std.proofs.Common.{◌≡◌, ℕ, List, [], ◌<◌, length, arith, subst, sym, Bor}
-use Rattle.std.proofs.lemmas.List.{length-map, get_or-map}
+use Rattle.std.proofs.Common.{ℕ, List, [], length, arith, subst, sym, Bor}
+use Rattle.std.proofs.lemmas.List.{get_or-map}
 use Rattle.cert_lines.specs.Guesses.{bytes_of}
 use Rattle.cert_text.specs.Reached.{IsStep}
-use Rattle.cert_text.proofs.Parting.{nothing_read, refused_here, taken_here, ends_well, ends_badly}
+use Rattle.cert_text.proofs.Parting.{many, within, nothing_read, refused_here, taken_here, ends_well, ends_badly}
 use Rattle.cert_text.proofs.checking.bad_among.Goals as goal
-
-many : (words : List (Bor (List ℕ))) → length (bytes_of words) ≡ length words
-many words = length-map words (λ (w : Bor (List ℕ)). w.now)
-
-within : (words : List (Bor (List ℕ))) (i : ℕ) → i < length words → i < length (bytes_of words)
-within words i lt = omega (arith, many words, lt)
 
 pub loop-i-init : goal.loop-i-init
 loop-i-init c = nothing_read
