@@ -7,11 +7,11 @@ use Rattle.rt_proofs.proofs.Products.{times_comm, times_assoc}
 use Rattle.rt_frac.specs.declared.frac.Frac.{Frac}
 use Rattle.rt_frac.specs.Fracs.{IsFracOf}
 use Rattle.rt_solved.specs.Systems.{column_of, columns_of}
-use Rattle.rt_solved.specs.Tables.{IsWhole, basic_of}
+use Rattle.rt_solved.specs.Tables.{IsSolved, IsWhole, basic_of}
 use Rattle.rt_solved.proofs.Totals.{total_combined, total_same, unit, unit_there, unit_elsewhere, total_unit}
 use Rattle.rt_solved.proofs.Proportional.{same_or_not}
 use Rattle.rt_tableau.specs.Numbers.{number_of}
-use Rattle.rt_tableau.specs.States.{State, number_at, IsWholeEntry, IsRowEntry, AreCosts, IsCost, IsSmallTable}
+use Rattle.rt_tableau.specs.States.{State, number_at, IsWholeEntry, IsRowEntry, AreCosts, IsCost, IsSmallTable, IsGoalRow, IsGoalFree}
 use Rattle.rt_tableau.specs.Tables.{line_at, table_of, IsKept}
 use Rattle.rt_tableau.specs.Costs.{IsFree, IsBasicIn, cost_of, free_cost}
 use mir.Syntax.{w64}
@@ -34,9 +34,9 @@ pub row_entry : (state : State) (lines : List (List ℤ)) (i j : ℕ) (num den :
 row_entry state lines i j num den entry kept e f is = record { table = table_of lines; whole = whole_kept state lines kept; is = subst₂ (λ a b. IsFracOf a b entry) e f is }
 
 -- the costs by a line in which the goal is basic, in the places of a line
-line_costs : ℤ → List ℤ → ℕ → ℕ → ℤ
-line_costs times line goal zero = number_of line 0
-line_costs times line goal (suc k) = times *ℤ unit goal k -ℤ number_of line (suc k)
+pub line_costs : ℤ → (ℕ → ℤ) → ℕ → ℕ → ℤ
+line_costs times line goal zero = line 0
+line_costs times line goal (suc k) = times *ℤ unit goal k -ℤ line (suc k)
 
 none_left : (d n u : ℤ) → u ≡ pos 1 → n ≡ d → d *ℤ u -ℤ n ≡ pos 0
 none_left d n u e f = omega (arith, ints, f, ap (λ z. d *ℤ z) e)
@@ -49,20 +49,20 @@ both_none d n u e f = omega (arith, ints, f, ap (λ z. d *ℤ z) e)
 
 -- as they are told
 line_cost_at : (times : ℤ) (line : List ℤ) (goal columns j : ℕ) → number_of line (suc goal) ≡ times → goal < columns → j ≤ columns
-    → line_costs times line goal (number_at columns j) ≡ cost_of line goal columns j
+    → line_costs times (number_of line) goal (number_at columns j) ≡ cost_of line goal columns j
 unfolding line_costs
 line_cost_at times line goal columns j e h g = by_goal (j == goal) refl
   where
-    by_column : (b : Bool) → (j == columns) ≡ b → (j ≡ goal → ⊥) → line_costs times line goal (number_at columns j) ≡ (if b then number_of line 0 else neg_ℤ (number_of line (suc j)))
-    by_column true f n = ap (line_costs times line goal) (ap (number_at columns) (eqb-true j columns f) ∙ right_at columns)
+    by_column : (b : Bool) → (j == columns) ≡ b → (j ≡ goal → ⊥) → line_costs times (number_of line) goal (number_at columns j) ≡ (if b then number_of line 0 else neg_ℤ (number_of line (suc j)))
+    by_column true f n = ap (line_costs times (number_of line) goal) (ap (number_at columns) (eqb-true j columns f) ∙ right_at columns)
     by_column false f n =
-        ap (line_costs times line goal) (column_at columns j (omega (arith, g, eqb-false j columns f)))
+        ap (line_costs times (number_of line) goal) (column_at columns j (omega (arith, g, eqb-false j columns f)))
         ∙ turned_left times (number_of line (suc j)) (unit goal j) (unit_elsewhere goal j (λ k. n (sym k)))
 
-    by_goal : (b : Bool) → (j == goal) ≡ b → line_costs times line goal (number_at columns j) ≡ cost_of line goal columns j
+    by_goal : (b : Bool) → (j == goal) ≡ b → line_costs times (number_of line) goal (number_at columns j) ≡ cost_of line goal columns j
     by_goal true f =
         let same : j ≡ goal = eqb-true j goal f in
-        ap (line_costs times line goal) (column_at columns j (omega (arith, h, same)))
+        ap (line_costs times (number_of line) goal) (column_at columns j (omega (arith, h, same)))
         ∙ none_left times (number_of line (suc j)) (unit goal j) (ap (unit goal) same ∙ unit_there goal) (ap (λ k. number_of line (suc k)) same ∙ e)
         ∙ sym (rw f refl)
     by_goal false f = by_column (j == columns) refl (eqb-false j goal f) ∙ sym (rw f refl)
@@ -74,15 +74,15 @@ sum_up : (t d a b r x : ℤ) → pos 1 *ℤ t ≡ d *ℤ a +ℤ (pos 0 -ℤ pos 
 sum_up t d a b r x e f g = omega (arith, ints, e, f, ap (λ z. d *ℤ z) g)
 
 -- they are the costs
-line_are : (state : State) (lines : List (List ℤ)) (i : ℕ) → IsKept state lines → i < length state.system.rows → basic_of state.basis i ≡ column_of state.system.strips state.goal
-    → AreCosts state (number_of (line_at lines i) (suc (column_of state.system.strips state.goal))) (line_costs (number_of (line_at lines i) (suc (column_of state.system.strips state.goal))) (line_at lines i) (column_of state.system.strips state.goal))
+pub line_are : (state : State) (table : ℕ → ℕ → ℤ) (i : ℕ) → IsSolved state.system state.basis table → i < length state.system.rows → basic_of state.basis i ≡ column_of state.system.strips state.goal
+    → AreCosts state (table i (suc (column_of state.system.strips state.goal))) (line_costs (table i (suc (column_of state.system.strips state.goal))) (table i) (column_of state.system.strips state.goal))
 unfolding line_costs
-line_are state lines i kept h e = record {
-  positive = subst (λ c. pos 0 <ℤ table_of lines i (suc c)) e (kept.solved.positive i h);
+line_are state table i solved h e = record {
+  positive = subst (λ c. pos 0 <ℤ table i (suc c)) e (solved.positive i h);
   basic = λ k l. basic_cost k l (same_or_not i k);
   equal = λ x sol.
       sum_up _ times _ _ _ _ (total_combined columns (λ j. x (suc j) *ℤ unit goal j) (λ j. line (suc j) *ℤ x (suc j)) (λ j. (times *ℤ unit goal j -ℤ line (suc j)) *ℤ x (suc j)) times (pos 0 -ℤ pos 1) (pos 1)
-      (λ j l. times_left times (unit goal j) (line (suc j)) (x (suc j)))) (kept.solved.holds x sol i h).equal (total_unit columns goal (λ j. x (suc j)) there);
+      (λ j l. times_left times (unit goal j) (line (suc j)) (x (suc j)))) (solved.holds x sol i h).equal (total_unit columns goal (λ j. x (suc j)) there);
 }
   where
     goal : ℕ
@@ -92,22 +92,22 @@ line_are state lines i kept h e = record {
     columns = columns_of state.system
 
     line : ℕ → ℤ
-    line = number_of (line_at lines i)
+    line = table i
 
     times : ℤ
     times = line (suc goal)
 
     there : goal < columns
-    there = subst (λ c. c < columns_of state.system) e (kept.solved.there i h)
+    there = subst (λ c. c < columns_of state.system) e (solved.there i h)
 
     basic_cost : (k : ℕ) → k < length state.system.rows → (i ≡ k) ⊎ (i ≡ k → ⊥) → times *ℤ unit goal (basic_of state.basis k) -ℤ line (suc (basic_of state.basis k)) ≡ pos 0
     basic_cost k l (inl f) =
         let same : basic_of state.basis k ≡ goal = ap (basic_of state.basis) (sym f) ∙ e in
         none_left times (line (suc (basic_of state.basis k))) (unit goal (basic_of state.basis k)) (ap (unit goal) same ∙ unit_there goal) (ap (λ c. line (suc c)) same)
     basic_cost k l (inr n) =
-        let none : line (suc (basic_of state.basis k)) ≡ pos 0 = kept.solved.alone i k h l n in
+        let none : line (suc (basic_of state.basis k)) ≡ pos 0 = solved.alone i k h l n in
         both_none times (line (suc (basic_of state.basis k))) (unit goal (basic_of state.basis k))
-        (unit_elsewhere goal (basic_of state.basis k) (λ f. no_sign _ (subst (λ c. pos 0 <ℤ table_of lines i (suc c)) (e ∙ f) (kept.solved.positive i h)) none)) none
+        (unit_elsewhere goal (basic_of state.basis k) (λ f. no_sign _ (subst (λ c. pos 0 <ℤ table i (suc c)) (e ∙ f) (solved.positive i h)) none)) none
       where
         no_sign : (z : ℤ) → pos 0 <ℤ z → z ≡ pos 0 → ⊥
         no_sign z p q = omega (arith, ints, p, q)
@@ -119,8 +119,8 @@ line_cost state lines i j num den entry kept basic h e f is = record {
   table = table_of lines;
   solved = kept.solved;
   times = number_of (line_at lines i) (suc goal);
-  costs = line_costs (number_of (line_at lines i) (suc goal)) (line_at lines i) goal;
-  are = line_are state lines i kept here basic.is;
+  costs = line_costs (number_of (line_at lines i) (suc goal)) (number_of (line_at lines i)) goal;
+  are = line_are state (table_of lines) i kept.solved here basic.is;
   is = subst₂ (λ a b. IsFracOf a b entry) (e ∙ sym (line_cost_at (number_of (line_at lines i) (suc goal)) (line_at lines i) goal (columns_of state.system) j refl there h)) f is;
 }
   where
@@ -134,7 +134,7 @@ line_cost state lines i j num den entry kept basic h e f is = record {
     there = subst (λ c. c < columns_of state.system) basic.is (kept.solved.there i here)
 
 -- a goal that is basic nowhere costs itself
-free_costs : ℕ → ℕ → ℤ
+pub free_costs : ℕ → ℕ → ℤ
 free_costs goal zero = pos 0
 free_costs goal (suc k) = unit goal k
 
@@ -155,11 +155,11 @@ free_cost_at goal columns j h g = by_goal (j == goal) refl
 alone : (t x y : ℤ) → t ≡ x → pos 1 *ℤ x ≡ pos 0 *ℤ y +ℤ t
 alone t x y e = omega (arith, ints, e)
 
-free_are : (state : State) (lines : List (List ℤ)) → IsKept state lines → IsFree state.basis (column_of state.system.strips state.goal) → AreCosts state (pos 1) (free_costs (column_of state.system.strips state.goal))
+pub free_are : (state : State) → column_of state.system.strips state.goal < columns_of state.system → IsGoalFree state → AreCosts state (pos 1) (free_costs (column_of state.system.strips state.goal))
 unfolding free_costs
-free_are state lines kept free = record {
+free_are state there free = record {
   positive = omega (arith, ints);
-  basic = λ i h. unit_elsewhere goal (basic_of state.basis i) (λ e. free i (subst (λ n. i < n) (sym kept.basis_each) h) (sym e));
+  basic = λ i h. unit_elsewhere goal (basic_of state.basis i) (λ e. free.free i h (sym e));
   equal = λ x sol.
       alone _ _ (x 0) (total_same (columns_of state.system) (λ j. unit goal j *ℤ x (suc j)) (λ j. x (suc j) *ℤ unit goal j) (λ j l. times_comm (unit goal j) (x (suc j))) ∙ total_unit (columns_of state.system) goal (λ j. x (suc j)) there);
 }
@@ -167,8 +167,18 @@ free_are state lines kept free = record {
     goal : ℕ
     goal = column_of state.system.strips state.goal
 
-    there : goal < columns_of state.system
-    there = let b = column_below state.system.strips state.goal kept.goal_there.below in omega (arith, b)
+goal_free : (state : State) (lines : List (List ℤ)) → IsKept state lines → IsFree state.basis (column_of state.system.strips state.goal) → IsGoalFree state
+goal_free state lines kept free = record { free = λ i h. free i (subst (λ n. i < n) (sym kept.basis_each) h) }
+
+-- where the goal is basic
+pub goal_told : (state now : State) (lines : List (List ℤ)) (basis : List ℕ) (goal i : ℕ) → state ≡ now → IsKept state lines → basis ≡ state.basis → IsBasicIn basis goal i → goal ≡ column_of state.system.strips state.goal → IsGoalRow now i
+goal_told state now lines basis goal i e kept b basic c =
+    let basic' : IsBasicIn state.basis (column_of state.system.strips state.goal) i = subst₂ (λ xs n. IsBasicIn xs n i) b c basic in
+    subst (λ s. IsGoalRow s i) e (record { there = subst (λ n. i < n) kept.basis_each basic'.there; is = basic'.is })
+
+-- where it isn't
+pub free_told : (state now : State) (lines : List (List ℤ)) (basis : List ℕ) (goal : ℕ) → state ≡ now → IsKept state lines → basis ≡ state.basis → IsFree basis goal → goal ≡ column_of state.system.strips state.goal → IsGoalFree now
+free_told state now lines basis goal e kept b free c = subst IsGoalFree e (goal_free state lines kept (subst₂ IsFree b c free))
 
 pub free_entry : (state : State) (lines : List (List ℤ)) (j : ℕ) (num den : ℤ) (entry : Frac) → IsKept state lines → IsFree state.basis (column_of state.system.strips state.goal) → j ≤ columns_of state.system
     → num ≡ free_cost (column_of state.system.strips state.goal) j → den ≡ pos 1 → IsFracOf num den entry → IsCost state j entry
@@ -177,7 +187,7 @@ free_entry state lines j num den entry kept free h e f is = record {
   solved = kept.solved;
   times = pos 1;
   costs = free_costs (column_of state.system.strips state.goal);
-  are = free_are state lines kept free;
+  are = free_are state there (goal_free state lines kept free);
   is = subst₂ (λ a b. IsFracOf a b entry) (e ∙ sym (free_cost_at (column_of state.system.strips state.goal) (columns_of state.system) j there h)) f is;
 }
   where

@@ -52,6 +52,15 @@ pub record IsEntry (state : State) (i j : ℕ) (entry : Frac) : Type 0 where
   pub of_row : i < length state.system.rows → IsRowEntry state i j entry
   pub of_costs : i ≡ length state.system.rows → IsCost state j entry
 
+-- the goal is basic in that row
+pub record IsGoalRow (state : State) (i : ℕ) : Type 0 where
+  pub there : i < length state.system.rows
+  pub is : basic_of state.basis i ≡ column_of state.system.strips state.goal
+
+-- the goal is basic in no row
+pub record IsGoalFree (state : State) : Type 0 where
+  pub free : (i : ℕ) → i < length state.system.rows → basic_of state.basis i ≡ column_of state.system.strips state.goal → ⊥
+
 -- the rows, solved for the basis, have a number below 0 at row p and column q
 pub record IsNegative (state : State) (p q : ℕ) : Type 0 where
   pub row : p < length state.system.rows

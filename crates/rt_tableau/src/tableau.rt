@@ -2,9 +2,9 @@
 ghost use Rattle.std.specs.Prelude.{◌≡◌, ◌+◌, ◌-◌, ◌<◌, ◌≤◌, ◌^◌, ℕ, ℤ, length, slice_get, Some, OnOk, OnErr, IfOk, IfErr, MatchBool, MatchOption, true};
 ghost use Rattle.rt_rows.specs.declared.row.Row.{Row as RowValue};
 ghost use Rattle.rt_rows.specs.Known.{IsSmall};
-ghost use Rattle.rt_solved.specs.Systems.{columns_of};
+ghost use Rattle.rt_solved.specs.Systems.{columns_of, column_of};
 ghost use Rattle.rt_solved.specs.Tables.{basic_of};
-ghost use Rattle.rt_tableau.specs.States.{State, IsNegative, IsWholeEntry, IsRowEntry, IsCost, IsEntry, IsSmallTable, exchanged_state};
+ghost use Rattle.rt_tableau.specs.States.{State, IsGoalRow, IsGoalFree, IsNegative, IsWholeEntry, IsRowEntry, IsCost, IsEntry, IsSmallTable, exchanged_state};
 ghost use Rattle.rt_tableau.specs.Tables.{IsKept};
 ghost use Rattle.rt_tableau.specs.Refusals.{IsRefused};
 ghost use Rattle.rt_tableau.specs.Added.{IsAddable, added_state, IsPastAdded, IsBranch, IsNewRow};
@@ -114,6 +114,25 @@ impl Tableau {
             self.row_entry(i as usize, j as usize)
         } else {
             self.cost(j as usize)
+        }
+    }
+
+    /// The column of the goal.
+    pub fn goal_column(&self) -> u32
+        ensures is { result ≡ column_of self.now.system.strips self.now.goal }
+        ensures there { result < columns_of self.now.system }
+    {
+        column(self.strips, &self.goal) as u32
+    }
+
+    /// The row in which the goal is basic, if there is one.
+    pub fn goal_row(&self) -> Option<u32>
+        ensures { MatchOption result (IsGoalFree self.now) (IsGoalRow self.now) }
+    {
+        let goal = column(self.strips, &self.goal);
+        match row_of(self.basis.as_slice(), goal) {
+            Some(i) => Some(i as u32),
+            None => None,
         }
     }
 
