@@ -19,10 +19,10 @@ use Rattle.gds_flat.specs.Walking.{name_at, names_at, IsFirst, AreMarked, IsCirc
 use Rattle.gds_flat.specs.Depths.{IsTree, IsDepthOf}
 use Rattle.gds_flat.specs.Drawings.{IsAcceptedWalk}
 use Rattle.gds_flat.specs.Refused.{elements_along, IsSound, Accepted, HasCycle, IsTooDeep, FlatRefused, refusal_of, refusal_to}
-use Rattle.gds_flat.proofs.Entries.{entry_in, in_entry}
 use Rattle.rt_cells.proofs.Lists.{mapped, mapped_from}
 use Rattle.gds_flat.proofs.Going.{chain_ends}
 use Rattle.std.proofs.Common.{tests}
+use Rattle.rt_cells.proofs.Entries.{contains_at, contained_at}
 use Rattle.gds_flat.proofs.Coming.{first_within, all_entries}
 
 -- what is seen is in the order, and so is what is to be taken first
@@ -40,7 +40,7 @@ mark_over : (library : List Structure) (marks : List Mark) (order finish : List 
     → slice_get marks k ≡ Some m → Contains order k → Contains finish k
 mark_over library marks order finish k Unseen h at among = absurd (h.unseen k at among)
 mark_over library marks order finish k (Open d) h at among = let nowhere = h.open_at k d at in cc
-mark_over library marks order finish k (Done d) h at among = entry_in finish d k (h.done_at k d at)
+mark_over library marks order finish k (Done d) h at among = contains_at finish d k (h.done_at k d at)
 
 order_over : (library : List Structure) (marks : List Mark) (order finish : List ℕ) (k : ℕ) → AreMarked library [] marks order finish
     → Contains order k → Contains finish k
@@ -52,13 +52,13 @@ order_over library marks order finish k h among =
 over_order : (library : List Structure) (marks : List Mark) (order finish : List ℕ) (k : ℕ) → AreMarked library [] marks order finish
     → Contains finish k → Contains order k
 over_order library marks order finish k h among =
-    let r = in_entry finish k among in h.done_seen k r.0 (h.at_done k r.0 r.1)
+    let r = contained_at finish k among in h.done_seen k r.0 (h.at_done k r.0 r.1)
 
 names_over : (library : List Structure) (from to : List ℕ) → ((k : ℕ) → Contains from k → Contains to k)
     → All (Contains (names_at library to)) (names_at library from)
 names_over library from to h =
     all_entries (Contains (names_at library to)) (names_at library from)
-    (λ i n e. let r = mapped_from (name_at library) from n (entry_in (names_at library from) i n e) in
+    (λ i n e. let r = mapped_from (name_at library) from n (contains_at (names_at library from) i n e) in
     let P : Name → Type 0 = λ x. Contains (names_at library to) x in
     subst P r.2 (mapped (name_at library) to r.0 (h r.0 r.1)))
 

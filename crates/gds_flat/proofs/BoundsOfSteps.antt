@@ -19,9 +19,9 @@ use Rattle.gds_flat.specs.Items.{Drawing, area_of, note_at, Piece, drawing_moved
 use Rattle.gds_flat.specs.Drawn.{drawing_of, piece_of, pieces_in}
 use Rattle.gds_flat.specs.Building.{SpotWithin, DrawingWithin, PieceWithin, most_shift, most_reach}
 use Rattle.gds_flat.proofs.Coming.{entry_is}
-use Rattle.gds_flat.proofs.Entries.{entry_in}
 use Rattle.rt_cells.proofs.Lists.{mapped}
 use Rattle.rt_cells.proofs.Times.{times_le}
+use Rattle.rt_cells.proofs.Entries.{contains_at}
 use Rattle.gds_flat.proofs.Leading.{rem_none}
 
 -- ---- parts and products
@@ -188,4 +188,4 @@ note_fits step d at text is small near =
 pub item_near : (inner : List Item) (i : ℕ) (item : Item) → i < length inner → item ≡ get_or inner i item → All (PieceWithin most_reach) (pieces_in inner)
     → PieceWithin most_reach (piece_of item)
 item_near inner i item below is near =
-    All-contains (PieceWithin most_reach) (pieces_in inner) (piece_of item) near (mapped piece_of inner item (entry_in inner i item (entry_is inner i item below is)))
+    All-contains (PieceWithin most_reach) (pieces_in inner) (piece_of item) near (mapped piece_of inner item (contains_at inner i item (entry_is inner i item below is)))

@@ -24,8 +24,8 @@ use Rattle.gds_flat.specs.Depths.{IsTree, PlaceOnly}
 use Rattle.gds_flat.specs.Building.{CanBeDrawn, CanBeListed}
 use Rattle.gds_flat.proofs.Going.{IsPlaced, placed}
 use Rattle.gds_flat.proofs.Coming.{all_entries}
-use Rattle.gds_flat.proofs.Entries.{entry_in}
 use Rattle.rt_cells.proofs.Lists.{mapped}
+use Rattle.rt_cells.proofs.Entries.{contains_at}
 use Rattle.gds_flat.proofs.Ranking.{IsTurn, places_before}
 
 -- ---- what is reached
@@ -92,10 +92,10 @@ drawn_at library tech order k fine drawable first among =
     let f : Name → List Element = λ n. elements_of (structure_named library n) in
     let same : elements_at library k ≡ f (name_at library k) = ap elements_of (p.at ∙ sym p.found) in
     let here : elements_at library k ≡ (r.0).elements = ap elements_of p.at in
-    let good : All IsDrawable (r.0).elements = All-contains (λ s. All IsDrawable s.elements) library r.0 drawable (entry_in library k r.0 p.at) in
+    let good : All IsDrawable (r.0).elements = All-contains (λ s. All IsDrawable s.elements) library r.0 drawable (contains_at library k r.0 p.at) in
     all_entries (CanBeDrawn tech) (elements_at library k)
     (λ i e at.
-    let has : Contains (elements_at library k) e = entry_in (elements_at library k) i e at in
+    let has : Contains (elements_at library k) e = contains_at (elements_at library k) i e at in
     let P : List Element → Type 0 = λ es. Contains es e in
     record {
       fine = All-contains (Fine tech) (elements_along library (names_at library order)) e fine
@@ -191,7 +191,7 @@ pub items_masked : (library : List Structure) (tech : Tech) (es : List Element) 
     → All (λ i. i.mask < length tech.masks) items
 items_masked library tech es items h =
     all_entries (λ i. i.mask < length tech.masks) items
-    (λ i item e. one item (All-contains (HasMask (length tech.masks)) (pieces_in items) (piece_of item) (pieces_masked library tech h) (mapped piece_of items item (entry_in items i item e))))
+    (λ i item e. one item (All-contains (HasMask (length tech.masks)) (pieces_in items) (piece_of item) (pieces_masked library tech h) (mapped piece_of items item (contains_at items i item e))))
   where
     one : (item : Item) → HasMask (length tech.masks) (piece_of item) → item.mask < length tech.masks
     one item k = k.below

@@ -5,6 +5,7 @@ use Rattle.std.proofs.lemmas.Bool.{cases_lt}
 use Rattle.std.proofs.lemmas.List.{append-nil, take_more, length-append}
 use Rattle.std.proofs.lemmas.Option.{slice_get_within}
 use Rattle.std.proofs.lemmas.List.Elements.{All-nil, All-cons, All-append, All-contains, Contains-append_left, Contains-append_right, filter_map-append}
+use Rattle.rt_cells.proofs.Entries.{contains_at, before_or_end}
 use Rattle.rt_tech.specs.declared.table.Tech.{Tech}
 use Rattle.gds_stream.specs.declared.library.Element.{Element}
 use Rattle.gds_stream.specs.declared.library.Structure.{Structure}
@@ -23,7 +24,6 @@ use Rattle.gds_flat.specs.Depths.{IsRankOf}
 use Rattle.gds_flat.specs.Building.{PieceWithin, most_shift, most_reach, reach_of, Appends, AreNearAnd, AreMovedBy, ChainFrom, AreNear, AreFrom, IsListOf, AreLists}
 use Rattle.gds_flat.proofs.Going.{IsPlaced, placed, name_placed}
 use Rattle.gds_flat.proofs.Coming.{entry_is, all_entries}
-use Rattle.gds_flat.proofs.Entries.{entry_in, pushed_entry}
 use Rattle.gds_flat.proofs.Ranking.{placed_one}
 use Rattle.gds_flat.proofs.PiecesThere.{steps_there, whole_reference, pieces_of_join}
 use Rattle.gds_flat.proofs.BoundsOfSteps.{piece_wider, piece_moved_within}
@@ -53,7 +53,7 @@ reach_wider : (m n : ℕ) → m ≤ n → reach_of m ≤ℤ reach_of n
 reach_wider m n h = omega (arith, ints)
 
 pub wider : (a b : ℤ) (pieces : List Piece) → a ≤ℤ b → All (PieceWithin a) pieces → All (PieceWithin b) pieces
-wider a b pieces wide near = all_entries (PieceWithin b) pieces (λ i p e. piece_wider a b p wide (All-contains (PieceWithin a) pieces p near (entry_in pieces i p e)))
+wider a b pieces wide near = all_entries (PieceWithin b) pieces (λ i p e. piece_wider a b p wide (All-contains (PieceWithin a) pieces p near (contains_at pieces i p e)))
 
 near_append : (library : List Structure) (es fs : List Element) (a b : List Piece) → AreNear library es a → AreNear library fs b → AreNear library (es ++ fs) (a ++ b)
 near_append library es fs a b h k =
@@ -231,5 +231,5 @@ lists_more library tech finish lists k list at is h = record {
       let P : ℕ → Type 0 = λ x. IsListOf library tech (name_at library x) (pieces_in items) in
       let Q : List Item → Type 0 = λ xs. IsListOf library tech (name_at library k) (pieces_in xs) in
       subst P one (subst Q same is))
-      (pushed_entry lists list p items e);
+      (before_or_end lists list p items e);
 }

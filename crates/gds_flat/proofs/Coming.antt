@@ -15,8 +15,8 @@ use Rattle.gds_flat.specs.declared.walk.Walk.{Walk}
 use Rattle.gds_flat.specs.Reach.Order.{done}
 use Rattle.gds_flat.specs.Reach.{Name, name_of, elements_of, target, references, Refers}
 use Rattle.gds_flat.specs.Walking.{name_at, names_at, elements_at, IsFirst, opens, taken, elements_left, agenda, LeadsOn, AreMarked, IsTakenBut, AreRanked, IsCircle, IsChain, HasCome, IsWalk, HasWalked}
-use Rattle.gds_flat.proofs.Entries.{last_entry, entry_in, in_entry}
 use Rattle.rt_cells.proofs.Lists.{mapped}
+use Rattle.rt_cells.proofs.Entries.{get_end, contains_at, contained_at}
 use Rattle.gds_flat.proofs.Marking.{mark_open, mark_done}
 use Rattle.gds_flat.proofs.Going.{IsPlaced, placed, not_among, leads_known, leads_new, agenda_more, opens_more, names_more, chain_more, chain_less, circle_found, ranked_more, taken_last, taken_front, taken_more, taken_pending}
 
@@ -53,7 +53,7 @@ finish_first library opened marks order finish m =
 pub last_open : (library : List Structure) (frames : List Frame) (f : Frame) (marks : List Mark) (order finish : List ℕ)
     → AreMarked library (opens (frames ++ f ∷ [])) marks order finish → slice_get marks f.structure ≡ Some (Open (length (opens frames)))
 last_open library frames f marks order finish m =
-    m.at_open f.structure (length (opens frames)) (rw (opens_more frames f) (last_entry (opens frames) f.structure))
+    m.at_open f.structure (length (opens frames)) (rw (opens_more frames f) (get_end (opens frames) f.structure))
 
 pub first_within : (library : List Structure) (k : ℕ) → IsFirst library k → k < length library
 first_within library k first =
@@ -105,9 +105,9 @@ come_close library top frames f marks order finish circle d over deep h =
     let k = f.structure in
     let name = name_at library k in
     let m0 : AreMarked library (opens frames ++ k ∷ []) marks order finish = marked_same library marks order finish (opens_more frames f) h.marked in
-    let was : slice_get marks k ≡ Some (Open (length (opens frames))) = m0.at_open k (length (opens frames)) (last_entry (opens frames) k) in
+    let was : slice_get marks k ≡ Some (Open (length (opens frames))) = m0.at_open k (length (opens frames)) (get_end (opens frames) k) in
     let first : IsFirst library k = All-contains (IsFirst library) order k m0.first (m0.open_seen k (length (opens frames)) was) in
-    let absent : ¬ Contains finish k = λ at. let r = in_entry finish k at in let ready = m0.at_done k r.0 r.1 in cc in
+    let absent : ¬ Contains finish k = λ at. let r = contained_at finish k at in let ready = m0.at_done k r.0 r.1 in cc in
     let r = placed library name k first in
     let p : IsPlaced library name k r.0 = r.1 in
     let nothing : elements_left library f ≡ [] = drop_all f.next (elements_at library k) over in
@@ -149,7 +149,7 @@ pub come_done : (library : List Structure) (top : Name) (frames : List Frame) (m
 come_done library top frames marks order finish circle k d was h =
     let name = name_at library k in
     let among : Contains (names_at library order) name = mapped (name_at library) order k (h.marked.done_seen k d was) in
-    let ready : Contains (names_at library finish) name = mapped (name_at library) finish k (entry_in finish d k (h.marked.done_at k d was)) in
+    let ready : Contains (names_at library finish) name = mapped (name_at library) finish k (contains_at finish d k (h.marked.done_at k d was)) in
     let all : (m : Name) → Contains (name ∷ []) m → Contains (names_at library finish) m = λ m at.
     let P : Name → Type 0 = λ n. Contains (names_at library finish) n in
     ⊎_elim (λ none. absurd (omega (arith, none.1))) (λ e. subst P e ready) (Contains-push_cases [] name m at) in
@@ -250,7 +250,7 @@ come_on library top frames f marks order finish circle e o below is to h =
     ∙ append_assoc (option_to_list o) (references (drop (f.next + 1) elements)) (agenda library frames)
     ∙ ap (λ names. option_to_list o ++ names) (sym (agenda_more library frames g)) in
     let m0 : AreMarked library (opens frames ++ k ∷ []) marks order finish = marked_same library marks order finish (opens_more frames f) h.marked in
-    let was : slice_get marks k ≡ Some (Open (length (opens frames))) = m0.at_open k (length (opens frames)) (last_entry (opens frames) k) in
+    let was : slice_get marks k ≡ Some (Open (length (opens frames))) = m0.at_open k (length (opens frames)) (get_end (opens frames) k) in
     let first : IsFirst library k = All-contains (IsFirst library) order k m0.first (m0.open_seen k (length (opens frames)) was) in
     let all : references elements ≡ references (take f.next elements) ++ (option_to_list o ++ references (drop (f.next + 1) elements)) =
     references_all elements f.next ∙ ap (λ names. references (take f.next elements) ++ names) from in

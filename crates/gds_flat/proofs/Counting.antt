@@ -5,6 +5,7 @@ use Rattle.std.proofs.lemmas.Bool.{cases_lt}
 use Rattle.std.proofs.lemmas.Int.{ints}
 use Rattle.std.proofs.lemmas.List.{length-append, length-map, take_more}
 use Rattle.std.proofs.lemmas.Option.{slice_get_within, slice_get-get_or}
+use Rattle.rt_cells.proofs.Entries.{before_or_end}
 use Rattle.rt_base.specs.declared.plane.Point.{Point}
 use Rattle.rt_base.specs.declared.text.Text.{Text}
 use Rattle.rt_tech.specs.declared.table.Tech.{Tech}
@@ -25,7 +26,6 @@ use Rattle.gds_flat.specs.Placing.{shift_of, AreStepsTo, array_shifts, AreArrayS
 use Rattle.gds_flat.specs.Items.{Piece, area_piece, note_piece, all_moved, PiecesOf}
 use Rattle.gds_flat.specs.Drawn.{IsCount, HasCount}
 use Rattle.gds_flat.specs.Counting.{AreFirstCounts, HasCountOf, HasOwnCount, HasCountOn, IsPlacedTimes}
-use Rattle.gds_flat.proofs.Entries.{pushed_entry}
 use Rattle.gds_flat.proofs.Going.{IsPlaced, placed}
 use Rattle.gds_flat.proofs.Ranking.{IsTurn}
 use Rattle.gds_flat.proofs.PiecesThere.{own_some, steps_there, pieces_of_join, pieces_of_own, pieces_of_placed}
@@ -224,7 +224,7 @@ counts_more library tech finish counts k count es at first same one h = record {
       let P : ℕ → Type 0 = λ x. HasCount library tech (name_at library x) c in
       let Q : ℕ → Type 0 = λ x. HasCount library tech (name_at library k) x in
       subst P structure (subst Q value (structure_counted library tech k count es first same one)))
-      (pushed_entry counts count p c e);
+      (before_or_end counts count p c e);
 }
 
 -- the count at a turn

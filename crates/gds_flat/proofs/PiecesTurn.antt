@@ -13,8 +13,8 @@ use Rattle.gds_flat.specs.Walking.{name_at, names_at, elements_at}
 use Rattle.gds_flat.specs.Depths.{IsTree}
 use Rattle.gds_flat.specs.Refused.{elements_along}
 use Rattle.gds_flat.specs.Drawn.{IsDrawable, AreDrawable}
-use Rattle.gds_flat.proofs.Entries.{entry_in}
 use Rattle.rt_cells.proofs.Lists.{mapped}
+use Rattle.rt_cells.proofs.Entries.{contains_at}
 use Rattle.gds_flat.proofs.Going.{IsPlaced, placed}
 use Rattle.gds_flat.proofs.Coming.{all_entries}
 use Rattle.gds_flat.proofs.Ranking.{IsTurn}
@@ -49,7 +49,7 @@ turn_fine library top walk tech i k es tree fine turn same =
     subst Q (sym (same ∙ named)) (all_entries P (elements_of (structure_named library (name_at library k)))
     (λ j e at. All-contains P (elements_along library (names_at library walk.order.items)) e fine
     (contains_along library (names_at library walk.order.items) (name_at library k) e (mapped (name_at library) walk.order.items k reached)
-    (entry_in (elements_of (structure_named library (name_at library k))) j e at))))
+    (contains_at (elements_of (structure_named library (name_at library k))) j e at))))
 
 -- and drawable
 pub turn_drawable : (library : List Structure) (finish : List ℕ) (i k : ℕ) (es : List Element) → AreDrawable library → IsTurn library finish i k
@@ -59,4 +59,4 @@ turn_drawable library finish i k es drawable turn same =
     let p : IsPlaced library (name_at library k) k r.0 = r.1 in
     let read : elements_at library k ≡ (r.0).elements = ap elements_of p.at in
     let Q : List Element → Type 0 = λ xs. All IsDrawable xs in
-    subst Q (sym (same ∙ read)) (All-contains (λ s. All IsDrawable s.elements) library r.0 drawable (entry_in library k r.0 p.at))
+    subst Q (sym (same ∙ read)) (All-contains (λ s. All IsDrawable s.elements) library r.0 drawable (contains_at library k r.0 p.at))

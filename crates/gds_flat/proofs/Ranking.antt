@@ -13,8 +13,8 @@ use Rattle.gds_flat.specs.declared.walk.Mark.TheVariants.{Done}
 use Rattle.gds_flat.specs.Reach.{Name, place_named, target, references, Refers, Chain, StandsBehind, RankedBehind, Ranked}
 use Rattle.gds_flat.specs.Walking.{name_at, names_at, elements_at, IsFirst, AreMarked}
 use Rattle.gds_flat.specs.Depths.{IsTree, IsRankOf, PlaceOnly, IsDepthOf, AreDepths, IsDeepest}
-use Rattle.gds_flat.proofs.Entries.{entry_in, in_entry, pushed_entry}
 use Rattle.rt_cells.proofs.Lists.{mapped, mapped_from}
+use Rattle.rt_cells.proofs.Entries.{contains_at, contained_at, before_or_end}
 use Rattle.gds_flat.proofs.Going.{IsPlaced, placed}
 use Rattle.gds_flat.proofs.Coming.{finish_first, first_within, elements_read}
 
@@ -32,7 +32,7 @@ pub not_done : (library : List Structure) (marks : List Mark) (order finish : Li
     → ¬ Contains (names_at library finish) name
 not_done library marks order finish name k m marked named at differs among =
     let r = mapped_from (name_at library) finish name among in
-    let e = in_entry finish r.0 r.1 in
+    let e = contained_at finish r.0 r.1 in
     let ready : slice_get marks r.0 ≡ Some (Done e.0) = marked.at_done r.0 e.0 e.1 in
     let first : IsFirst library r.0 = All-contains (IsFirst library) finish r.0 (finish_first library [] marks order finish marked) r.1 in
     let P : Name → Type 0 = λ n. place_named n library ≡ Some r.0 in
@@ -58,9 +58,9 @@ pub rank_low : (library : List Structure) (marks : List Mark) (order finish : Li
     → AreMarked library [] marks order finish → Contains (names_at library (take count finish)) name → IsRankOf library finish name p → p < count
 rank_low library marks order finish name count p marked among rank =
     let r = mapped_from (name_at library) (take count finish) name among in
-    let e = in_entry (take count finish) r.0 r.1 in
+    let e = contained_at (take count finish) r.0 r.1 in
     let t = taken_entry finish count e.0 r.0 e.1 in
-    let first : IsFirst library r.0 = All-contains (IsFirst library) finish r.0 (finish_first library [] marks order finish marked) (entry_in finish e.0 r.0 t.0) in
+    let first : IsFirst library r.0 = All-contains (IsFirst library) finish r.0 (finish_first library [] marks order finish marked) (contains_at finish e.0 r.0 t.0) in
     let P : Name → Type 0 = λ n. place_named n library ≡ Some r.0 in
     let found : place_named name library ≡ Some r.0 = subst P r.2 first in
     let named = rank.named in
@@ -75,10 +75,10 @@ pub among_all : (library : List Structure) (finish : List ℕ) (name : Name) (co
     → Contains (names_at library finish) name
 among_all library finish name count among =
     let r = mapped_from (name_at library) (take count finish) name among in
-    let e = in_entry (take count finish) r.0 r.1 in
+    let e = contained_at (take count finish) r.0 r.1 in
     let t = taken_entry finish count e.0 r.0 e.1 in
     let P : Name → Type 0 = λ n. Contains (names_at library finish) n in
-    subst P r.2 (mapped (name_at library) finish r.0 (entry_in finish e.0 r.0 t.0))
+    subst P r.2 (mapped (name_at library) finish r.0 (contains_at finish e.0 r.0 t.0))
 
 -- what stands at a place of a ranked list stands behind those before it
 ranked_at : (library : List Structure) (before names : List Name) (i : ℕ) (n : Name) → RankedBehind library before names → slice_get names i ≡ Some n
@@ -213,7 +213,7 @@ pub depths_more : (library : List Structure) (finish depths : List ℕ) (k depth
     → depth ≤ length depths + 1 → IsDepthOf library (name_at library k) depth → AreDepths library finish depths → AreDepths library finish (depths ++ depth ∷ [])
 depths_more library finish depths k depth at low is h = record {
   few = let below = slice_get_within finish (length depths) k at in omega (arith, length-append depths (depth ∷ []));
-  small = λ p d e. ⊎_elim (λ old. h.small p d old) (λ new. let place : p ≡ length depths = new.0 in let same : depth ≡ d = new.1 in omega arith) (pushed_entry depths depth p d e);
+  small = λ p d e. ⊎_elim (λ old. h.small p d old) (λ new. let place : p ≡ length depths = new.0 in let same : depth ≡ d = new.1 in omega arith) (before_or_end depths depth p d e);
   are = λ p d j e f. ⊎_elim (λ old. h.are p d j old f)
       (λ new. let place : p ≡ length depths = new.0 in
       let same : depth ≡ d = new.1 in
@@ -222,7 +222,7 @@ depths_more library finish depths k depth at low is h = record {
       let P : ℕ → Type 0 = λ x. IsDepthOf library (name_at library x) d in
       let Q : ℕ → Type 0 = λ x. IsDepthOf library (name_at library k) x in
       subst P one (subst Q same is))
-      (pushed_entry depths depth p d e);
+      (before_or_end depths depth p d e);
 }
 
 -- the structure at a place of the finish, as a loop over it reads it
@@ -238,7 +238,7 @@ turn_of library top walk items i tree same below =
     let at : slice_get walk.finish.items i ≡ Some (get_or items i 0) = subst P same (slice_get-get_or items i 0 below) in
     let first : IsFirst library (get_or items i 0) =
     All-contains (IsFirst library) walk.finish.items (get_or items i 0) (finish_first library [] walk.marks.items walk.order.items walk.finish.items tree.marked)
-    (entry_in walk.finish.items i (get_or items i 0) at) in
+    (contains_at walk.finish.items i (get_or items i 0) at) in
     record { at = at; first = first; low = first_within library (get_or items i 0) first }
 
 -- the elements of a structure that was read

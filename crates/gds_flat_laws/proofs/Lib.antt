@@ -1,3 +1,4 @@
+pub mod Drawable
 pub mod Faults
 pub mod Refusals
 pub mod FaultsOne

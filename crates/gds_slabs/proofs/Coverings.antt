@@ -1,11 +1,12 @@
 -- A polygon's slabs: there is one list of them, and they cover the cells inside, each once.
-use Rattle.std.proofs.Common.{◌≡◌, ℤ, pos, ◌-ℤ◌, ◌≤ℤ◌, ◌<ℤ◌, Bool, true, false, cond, List, [], ◌∷◌, Contains, refl, sym, ◌∙◌, ap, subst, inl, inr, arith}
+use Rattle.std.proofs.Common.{◌≡◌, ℤ, pos, ◌≤ℤ◌, ◌<ℤ◌, Bool, true, false, cond, List, [], ◌∷◌, Contains, refl, sym, ◌∙◌, ap, subst, inl, inr, arith}
 use Rattle.std.specs.Prelude.{int_le}
 use Rattle.std.proofs.lemmas.Int.{ints, by_lt_z}
 use Rattle.std.proofs.lemmas.Bool.{cond_both}
 use Rattle.rt_cells.specs.Line.{Within, IsRun}
 use Rattle.rt_cells.specs.Rectangles.{Rectangle, Holds, Covers}
-use Rattle.rt_cells.proofs.Lines.{within, antisymmetric}
+use Rattle.rt_cells.proofs.Lines.{antisymmetric, one_run}
+use Rattle.rt_cells.proofs.Rectangles.{same_sides}
 use Rattle.rt_base.specs.declared.plane.Point.{Point}
 use Rattle.gds_slabs.specs.declared.toggles.Toggle.{Toggle}
 use Rattle.gds_slabs.specs.Polygon.{Inside, IsClosed, IsSlanted}
@@ -62,19 +63,6 @@ slabs_are_one points rs qs h k =
 
 -- ---- no cell twice
 
-run_starts : (line : ℤ → Type 0) (a b p q z : ℤ) → IsRun line a b → IsRun line p q → Within a b z → Within p q z → a <ℤ p → ⊥
-run_starts line a b p q z r s h k l = s.before (r.inside (p -ℤ pos 1) (within a b (p -ℤ pos 1) (omega (arith, ints)) (omega (arith, ints, h.to, k.from))))
-
-run_ends : (line : ℤ → Type 0) (a b p q z : ℤ) → IsRun line a b → IsRun line p q → Within a b z → Within p q z → q <ℤ b → ⊥
-run_ends line a b p q z r s h k l = s.after (r.inside q (within a b q (omega (arith, ints, h.from, k.to)) l))
-
--- runs that share a place are one
-pub runs_are_one : (line : ℤ → Type 0) (a b p q z : ℤ) → IsRun line a b → IsRun line p q → Within a b z → Within p q z → (a ≡ p) × (b ≡ q)
-runs_are_one line a b p q z r s h k = (
-  by_lt_z a p (λ l. absurd (run_starts line a b p q z r s h k l)) (λ l. by_lt_z p a (λ m. absurd (run_starts line p q a b z s r k h m)) (λ m. antisymmetric a p m l)),
-  by_lt_z b q (λ l. absurd (run_ends line p q a b z s r k h l)) (λ l. by_lt_z q b (λ m. absurd (run_ends line a b p q z r s h k m)) (λ m. antisymmetric b q m l)),
-)
-
 bottom_first : (height : ℤ → Type 0) (a b p q y : ℤ) → AreAdjacent height a b → AreAdjacent height p q → Within a b y → Within p q y → a <ℤ p → ⊥
 bottom_first height a b p q y r s h k l = r.none_between p s.bottom l (omega (arith, ints, h.to, k.from))
 
@@ -87,15 +75,12 @@ adjacent_are_one height a b p q y r s h k = (
   by_lt_z b q (λ l. absurd (top_first height p q a b y s r k h l)) (λ l. by_lt_z q b (λ m. absurd (top_first height a b p q y r s h k m)) (λ m. antisymmetric b q m l)),
 )
 
-pub same_sides : (r q : Rectangle) → r.left ≡ q.left → r.right ≡ q.right → r.bottom ≡ q.bottom → r.top ≡ q.top → r ≡ q
-same_sides r q a b c d = λ i. record { left = a i; right = b i; bottom = c i; top = d i }
-
 -- slabs that share a cell are one
 pub slabs_apart : (points : List Point) (r q : Rectangle) → IsSlab points r → IsSlab points q → (x y : ℤ) → Holds r x y → Holds q x y → r ≡ q
 slabs_apart points r q h k x y m n =
     let rows = adjacent_are_one (IsHeight points) r.bottom r.top q.bottom q.top y h.heights k.heights m.row n.row in
     let run' : IsRun (λ z. Inside points z r.bottom) q.left q.right = subst (λ b. IsRun (λ z. Inside points z b) q.left q.right) (sym rows.0) k.run in
-    let columns = runs_are_one (λ z. Inside points z r.bottom) r.left r.right q.left q.right x h.run run' m.column n.column in
+    let columns = one_run (λ z. Inside points z r.bottom) r.left r.right q.left q.right x h.run run' m.column n.column in
     same_sides r q columns.0 columns.1 rows.0 rows.1
 
 -- ---- the toggles by height, as a list

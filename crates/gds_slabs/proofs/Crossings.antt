@@ -5,6 +5,7 @@ use Rattle.std.specs.Int.{int_min, int_max}
 use Rattle.std.specs.Ordering.{int_eq}
 use Rattle.std.proofs.lemmas.Int.{ints, clamps, by_lt_z}
 use Rattle.std.proofs.lemmas.Bool.Decides.{Decides-int_eq}
+use Rattle.std.proofs.lemmas.Option.{same_Some}
 use Rattle.rt_base.specs.declared.plane.Point.{Point}
 use Rattle.gds_slabs.specs.declared.toggles.Toggle.{Toggle}
 use Rattle.gds_slabs.specs.Polygon.{sides_from, sides, crosses, IsClosed, IsSlantedSide, IsSlanted}
@@ -96,14 +97,11 @@ get_last : (p : Point) (points : List Point) → slice_get (p ∷ points) (lengt
 get_last p [] = refl
 get_last p (q ∷ points) = get_last q points
 
-pub some_one : {X : Type 0} (a b : X) → Some a ≡ Some b → a ≡ b
-some_one a b e = cc
-
 pub closed_last : (p : Point) (points : List Point) → IsClosed (p ∷ points) → last_from p points ≡ p
 closed_last p points h =
     let e : length (p ∷ points) - 1 ≡ length points = omega arith in
     let k = subst (λ n. slice_get (p ∷ points) n ≡ Some p) e h in
-    some_one (last_from p points) p (sym (get_last p points) ∙ k)
+    same_Some (last_from p points) p (sym (get_last p points) ∙ k)
 
 joined : (a b c : Bool) → xor (xor a b) (xor b c) ≡ xor a c
 joined a b c = xor_assoc a b (xor b c) ∙ ap (xor a) (xor_twice b c)

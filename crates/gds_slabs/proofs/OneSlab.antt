@@ -213,10 +213,6 @@ around_decided (a ∷ b ∷ c ∷ d ∷ e ∷ []) p q s t v w five f g = (
 )
 around_decided points p q s t v w five f g = absurd (omega arith)
 
-pub not_around : (points : List Point) → length points ≢ 5 → ¬ GoesAround points
-not_around (a ∷ b ∷ c ∷ d ∷ e ∷ []) n h = n refl
-not_around points n h = h
-
 -- the opposite corners of a line that goes around
 pub opposite : (points : List Point) (p q : Point) → GoesAround points → IsSlantedSide (get_or points 0 p, get_or points 2 q)
 opposite (a ∷ b ∷ c ∷ d ∷ e ∷ []) p q h = h.0

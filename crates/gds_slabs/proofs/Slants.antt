@@ -4,11 +4,11 @@ use Rattle.std.specs.List.{list_any}
 use Rattle.std.specs.Ordering.{int_eq}
 use Rattle.std.proofs.lemmas.Bool.{or_cases, and_parts, and_from, not_from_false, or_left, or_right, false_from_ne_true}
 use Rattle.std.proofs.lemmas.Bool.Decides.{Decides-int_eq}
+use Rattle.std.proofs.lemmas.Option.{same_Some}
 use Rattle.rt_base.specs.declared.plane.Point.{Point}
 use Rattle.gds_slabs.specs.Polygon.{sides_from, sides, slanted, IsSlantedSide, IsSlanted, IsClosed}
 use Rattle.gds_slabs.proofs.Members.{Among, contains_from_among, among_from_contains}
 use Rattle.gds_slabs.proofs.Odds.{clash}
-use Rattle.gds_slabs.proofs.Crossings.{some_one}
 use Rattle.gds_slabs.proofs.Paths.{got}
 
 not_true : (b : Bool) → not b ≡ true → b ≡ false
@@ -62,4 +62,4 @@ closed_decided points d e answer some h =
     let last : length points - 1 < length points = omega arith in
     let f = got points (length points - 1) d last in
     let g = got points 0 e some in
-    ((λ k. f ∙ ap Some (h.0 k) ∙ sym g), (λ k. h.1 (some_one _ _ (sym f ∙ k ∙ g))))
+    ((λ k. f ∙ ap Some (h.0 k) ∙ sym g), (λ k. h.1 (same_Some _ _ (sym f ∙ k ∙ g))))

@@ -1,10 +1,10 @@
 -- Lemmas on places of a line: walks, and the place of one interval that is nearest to another.
-use Rattle.std.proofs.Common.{◌≡◌, ℕ, zero, suc, ◌+◌, ◌-◌, ℤ, pos, ◌+ℤ◌, ◌-ℤ◌, ◌≤ℤ◌, ◌<ℤ◌, ◌⊎◌, refl, subst, arith}
+use Rattle.std.proofs.Common.{◌≡◌, ℕ, zero, suc, ◌+◌, ◌-◌, ℤ, pos, ◌+ℤ◌, ◌-ℤ◌, ◌≤ℤ◌, ◌<ℤ◌, refl, subst, arith}
 use Rattle.std.proofs.lemmas.Int.{ints, clamps, by_lt_z}
 use Rattle.std.specs.Int.{int_max, int_min}
 use borrow.Author.Differences.{up, down}
 use mathlib.Core.Logic.{inl, inr}
-use Rattle.rt_cells.specs.Line.{Within, between, gap_of, nearest_place}
+use Rattle.rt_cells.specs.Line.{Within, IsRun, between, gap_of, nearest_place}
 use Rattle.rt_cells.specs.Cells.{Adjacent}
 
 -- how far one place lies after another
@@ -38,6 +38,13 @@ one_before z = omega (arith, ints)
 -- what is below is at most
 pub at_most : (p q : ℤ) → p <ℤ q → p ≤ℤ q
 at_most p q h = omega (arith, ints)
+
+-- what lies one or more after a number lies above it
+pub past : (low by high : ℤ) → pos 1 ≤ℤ by → (low +ℤ by) ≤ℤ high → low <ℤ high
+past low by high h k = omega (arith, ints, h, k)
+
+pub past_one : (low high : ℤ) → (low +ℤ pos 1) ≤ℤ high → low <ℤ high
+past_one low high h = omega (arith, ints, h)
 
 -- two numbers that are each at most the other are equal
 pub antisymmetric : (a b : ℤ) → a ≤ℤ b → b ≤ℤ a → a ≡ b
@@ -80,3 +87,28 @@ nearest_within low high other h = within _ _ _ (omega (arith, ints, clamps)) (om
 pub nearest_between : (low high low' high' : ℤ) → low <ℤ high → low' <ℤ high'
     → gap_of low high low' high' ≡ between (nearest_place low high low') (nearest_place low' high' low)
 nearest_between low high low' high' h k = omega (arith, ints, clamps)
+
+-- a gap is as wide from either side
+pub gap_back : (low high low' high' reach : ℤ) → gap_of low high low' high' <ℤ reach → gap_of low' high' low high <ℤ reach
+gap_back low high low' high' reach h = omega (arith, ints, clamps)
+
+-- runs that have a place in common begin at one place
+begin_together : (line : ℤ → Type 0) (a b c d x : ℤ) → IsRun line a b → IsRun line c d → Within a b x → Within c d x → a ≤ℤ c
+begin_together line a b c d x r s h k =
+    by_lt_z c a
+    (λ l. absurd (r.before (s.inside (a -ℤ pos 1) (within _ _ _ (omega (arith, ints)) (omega (arith, ints, h.from, k.to))))))
+    (λ l. l)
+
+-- and end at one place
+end_together : (line : ℤ → Type 0) (a b c d x : ℤ) → IsRun line a b → IsRun line c d → Within a b x → Within c d x → b ≤ℤ d
+end_together line a b c d x r s h k =
+    by_lt_z d b
+    (λ l. absurd (s.after (r.inside d (within _ _ _ (omega (arith, ints, h.from, k.to)) l))))
+    (λ l. l)
+
+-- runs that have a place in common are one
+pub one_run : (line : ℤ → Type 0) (a b c d x : ℤ) → IsRun line a b → IsRun line c d → Within a b x → Within c d x → (a ≡ c) × (b ≡ d)
+one_run line a b c d x r s h k = (
+  antisymmetric a c (begin_together line a b c d x r s h k) (begin_together line c d a b x s r k h),
+  antisymmetric b d (end_together line a b c d x r s h k) (end_together line c d a b x s r k h),
+)

@@ -1,5 +1,5 @@
 -- Cells of a rectangle are joined, and what shares a cell or a side is shared with.
-use Rattle.std.proofs.Common.{◌≡◌, ℤ, ◌⊎◌, refl}
+use Rattle.std.proofs.Common.{◌≡◌, ℤ, refl}
 use mathlib.Core.Logic.{inl, inr}
 use Rattle.rt_cells.specs.Cells.{Adjacent, Joined}
 use Rattle.rt_cells.specs.Cells.Joined.{here, onward}
@@ -17,6 +17,10 @@ joined_inside cells r covered x y u v h k =
     passed_along (λ z. Joined cells x y u z) r.bottom r.top
     (λ z t hz ht near j. onward u z u t j (inr (refl, near)) (covered u t (record { column = k.column; row = ht })))
     y v h.row k.row across
+
+-- rectangles with the same sides are one
+pub same_sides : (r q : Rectangle) → r.left ≡ q.left → r.right ≡ q.right → r.bottom ≡ q.bottom → r.top ≡ q.top → r ≡ q
+same_sides r q a b c d = λ i. record { left = a i; right = b i; bottom = c i; top = d i }
 
 adjacent_back : (p q : ℤ) → Adjacent p q → Adjacent q p
 adjacent_back p q (inl e) = inr e

@@ -6,10 +6,12 @@ use Rattle.rt_cells.specs.Line.{gap_of}
 use Rattle.rt_cells.proofs.Lines.{at_most}
 use lib.IntN.{*ℤ-zero, ℤ_ind, zero-*ℤ, suc_ℤ-*ℤ, pred_ℤ-*ℤ, +ℤ_one, -ℤ_one}
 
-one_more : (a b : ℤ) → (a +ℤ pos 1) *ℤ b ≡ a *ℤ b +ℤ b
+-- one times more
+pub one_more : (a b : ℤ) → (a +ℤ pos 1) *ℤ b ≡ a *ℤ b +ℤ b
 one_more a b = ap (λ z. z *ℤ b) (+ℤ_one a) ∙ suc_ℤ-*ℤ a b
 
-one_less : (a b : ℤ) → (a +ℤ neg_ℤ (pos 1)) *ℤ b ≡ a *ℤ b -ℤ b
+-- and one times less
+pub one_less : (a b : ℤ) → (a +ℤ neg_ℤ (pos 1)) *ℤ b ≡ a *ℤ b -ℤ b
 one_less a b = ap (λ z. z *ℤ b) (-ℤ_one a) ∙ pred_ℤ-*ℤ a b
 
 sum_of_none : (p q r : ℤ) → p ≡ pos 0 → q ≡ pos 0 → r ≡ pos 0 → p ≡ q +ℤ r
@@ -40,7 +42,8 @@ back_again b c = omega (arith, ints)
 pub times_sub : (a b c : ℤ) → a *ℤ (b -ℤ c) ≡ a *ℤ b -ℤ a *ℤ c
 times_sub a b c = difference_of_sum (a *ℤ b) (a *ℤ (b -ℤ c)) (a *ℤ c) (ap (λ z. a *ℤ z) (sym (back_again b c)) ∙ times_sum a (b -ℤ c) c)
 
-product_not_negative : (a b : ℤ) → pos 0 ≤ℤ a → pos 0 ≤ℤ b → pos 0 ≤ℤ (a *ℤ b)
+-- a product of numbers that are not negative isn't negative
+pub product_not_negative : (a b : ℤ) → pos 0 ≤ℤ a → pos 0 ≤ℤ b → pos 0 ≤ℤ (a *ℤ b)
 product_not_negative (pos m) (pos n) h k = omega (arith, ints)
 product_not_negative (pos m) (negsuc n) h k = absurd (omega (arith, ints))
 product_not_negative (negsuc m) b h k = absurd (omega (arith, ints))
@@ -52,6 +55,10 @@ times_positive (pos zero) b h k = absurd (omega (arith, ints))
 times_positive (pos (suc m)) (pos zero) h k = absurd (omega (arith, ints))
 times_positive (pos (suc m)) (negsuc n) h k = absurd (omega (arith, ints))
 times_positive (negsuc m) b h k = absurd (omega (arith, ints))
+
+-- the same where they are said to lie above 0
+pub positive_times : (a b : ℤ) → pos 0 <ℤ a → pos 0 <ℤ b → pos 0 <ℤ (a *ℤ b)
+positive_times a b h k = let p = times_positive a b (omega (arith, ints, h)) (omega (arith, ints, k)) in omega (arith, ints, p)
 
 at_most_from_rest : (p q d : ℤ) → d ≡ q -ℤ p → pos 0 ≤ℤ d → p ≤ℤ q
 at_most_from_rest p q d e h = omega (arith, ints)

@@ -5,6 +5,7 @@ use Rattle.std.proofs.lemmas.Int.{ints}
 use Rattle.std.proofs.lemmas.Bool.{cases_lt}
 use Rattle.std.proofs.lemmas.List.{get_or_default}
 use Rattle.std.proofs.lemmas.List.Elements.{All-push, All-nil, All-contains, All-weaker, Contains-append_left, Contains-push}
+use Rattle.rt_cells.proofs.Numbers.{below_or_at}
 use Rattle.rt_sweep.specs.declared.bar.Bar.{Bar}
 use Rattle.rt_sweep.specs.Rows.{AreAcross}
 use Rattle.rt_rows.specs.declared.name.Name.{Name}
@@ -14,7 +15,7 @@ use Rattle.rt_columns.specs.Adding.{Adds}
 use Rattle.rt_columns.specs.Bars.IsReached.{here, onward}
 use Rattle.rt_columns.specs.Bars.{AreBarsOf, line_at, IsOn, IsReached, IsHighest, IsLowest, IsStoodOn, IsStanding, ArePassed, GoesUpTo, IsReachedThere, AreReached, IsTaken, IsRunTo, IsRunFrom, IsRunAt, IsRunBelow}
 use Rattle.rt_columns.proofs.Adding.{adds_none, adds_one, adds_both, adds_as}
-use Rattle.rt_columns.proofs.Places.{below_or_at, rises, rises_across, adjoins, on_behind, tag_is}
+use Rattle.rt_columns.proofs.Places.{rises, rises_across, adjoins, on_behind, tag_is}
 
 -- none is passed at first
 pub none_passed : (over : List Bar) (k : ℕ) → ArePassed over 0 k

@@ -1,8 +1,8 @@
 -- Bars one after the other: those that go on, and those of a mask.
-use Rattle.std.proofs.Common.{◌≡◌, ℕ, ◌+◌, ◌<◌, ◌≤◌, ℤ, ◌≤ℤ◌, ◌<ℤ◌, List, [], ◌∷◌, ◌++◌, length, map, get_or, refl, sym, ap, subst, ◌∙◌, arith, inl, inr}
+use Rattle.std.proofs.Common.{◌≡◌, ℕ, ◌+◌, ◌<◌, ◌≤◌, ℤ, ◌≤ℤ◌, ◌<ℤ◌, List, [], ◌∷◌, ◌++◌, length, map, get_or, sym, ap, subst, ◌∙◌, arith, inl, inr}
 use Rattle.std.specs.List.{All, Contains}
 use Rattle.std.proofs.lemmas.Int.{ints}
-use Rattle.std.proofs.lemmas.List.Elements.{at_read, All-push, All-nil, All-contains, All-weaker, Contains-append_left, Contains-push}
+use Rattle.std.proofs.lemmas.List.Elements.{All-push, All-nil, All-contains, All-weaker, Contains-append_left, Contains-push}
 use Rattle.std.proofs.lemmas.List.Quantifiers.{all_pairs_push}
 use Rattle.rt_sweep.specs.declared.bar.Bar.{Bar}
 use Rattle.rt_sweep.specs.Slabs.{Passing, AreAbove, AreBelow, PassesSlab, IsActive, IsSlab}
@@ -10,6 +10,7 @@ use Rattle.rt_sweep.specs.Rows.{AreAcross, IsKept}
 use Rattle.rt_rows.specs.declared.name.Name.{Name}
 use Rattle.std.specs.List.Sorted.{IsPermutation}
 use Rattle.std.proofs.lemmas.List.Sorted.{All-permutation, Contains-permutation}
+use Rattle.rt_cells.proofs.Numbers.{below_or_at}
 use Rattle.rt_strips.specs.declared.listing.Strip.{Strip}
 use Rattle.rt_strips.specs.Placed.{Placed, placed, mask_of, bottom_of, top_of}
 use Rattle.rt_strips.proofs.Placed.{strip_is}
@@ -19,7 +20,6 @@ use Rattle.rt_columns.specs.Bars.{ArePassing, IsBarOf, AreBarsOf}
 use Rattle.rt_columns.specs.Columns.{HasBar, IsShownTo, IsColumnBar, AreColumnBars}
 use Rattle.rt_columns.specs.Slabs.{AddsSlab}
 use Rattle.rt_columns.specs.Sides.{IsStripBar, IsBarAdded, ShowsBars}
-use Rattle.rt_columns.proofs.Places.{below_or_at}
 use Rattle.rt_columns.proofs.Crossing.{none_at_start, all_at_end, one_slab}
 
 -- a bar goes on beyond the column and has a place below another
@@ -86,10 +86,6 @@ all_passing active end column through known h = record {
       subst (Contains through) is (known.every k bar (omega (arith, listed.1)) (let b : (get_or active k bar).at.y2 ≡ bar.at.y2 = ap (λ (c : Bar). c.at.y2) is in omega (arith, ints)));
   in_order = known.in_order;
 }
-
--- a bar that the code reads stands at its place, whatever stands for none
-pub read_at : (bars : List Bar) (i : ℕ) (bar : Bar) → i < length bars → bar ≡ get_or bars i bar → (d : Bar) → get_or bars i d ≡ bar
-read_at bars i bar lt is = at_read bars (λ b. b ≡ bar) i bar lt is refl
 
 -- the bars of the first strips that are of the mask
 pub record AreBarsTo (strips : List Placed) (left right : ℕ → ℤ) (m end : ℕ) (bars : List Bar) : Type 0 where

@@ -10,10 +10,10 @@ use Rattle.std.proofs.lemmas.Bool.{cases_lt}
 use Rattle.std.proofs.lemmas.List.{get_or_default}
 use Rattle.std.proofs.lemmas.List.Sorted.{sorted_far, ranks_by, length_permutation, Contains-permutation}
 use Rattle.std.proofs.lemmas.List.Elements.{Contains-append_left, Contains-push}
+use Rattle.rt_cells.proofs.Numbers.{below_or_at}
 use Rattle.rt_base.specs.Plane.{IsSide}
 use Rattle.rt_columns.specs.Sides.{side_of, HaveSides}
 use Rattle.rt_columns.specs.Ranking.{AreRising, IsRankIn, AreSides, AreRisingSides, AreRanksOf}
-use Rattle.rt_columns.proofs.Places.{below_or_at}
 
 not_less : (a b : ℤ) (r : Ordering) → MatchOrdering r (b <ℤ a) (b ≡ a) (a <ℤ b) → is_lt r ≡ false → a ≤ℤ b
 not_less a b Less h e = absurd (cc)

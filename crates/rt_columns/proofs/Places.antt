@@ -1,8 +1,10 @@
 -- The strips over a column by their places.
-use Rattle.std.proofs.Common.{◌≡◌, ℕ, ◌+◌, ◌<◌, ◌≤◌, ◌≤ℤ◌, ◌<ℤ◌, ◌⊎◌, List, [], ◌∷◌, length, get_or, sym, ap, subst, subst₂, ◌∙◌, arith, inl, inr}
+use Rattle.std.proofs.Common.{◌≡◌, ℕ, ◌<◌, ◌≤◌, ◌≤ℤ◌, ◌<ℤ◌, List, length, get_or, sym, ap, subst, subst₂, ◌∙◌, arith, inl, inr}
 use Rattle.std.proofs.lemmas.Int.{ints}
 use Rattle.std.proofs.lemmas.Bool.{cases_lt}
 use Rattle.std.proofs.lemmas.List.{get_or-map}
+use Rattle.rt_cells.proofs.Numbers.{below_or_at}
+use Rattle.rt_sweep.proofs.Passing.{some_bar}
 use Rattle.rt_sweep.specs.declared.bar.Bar.{Bar}
 use Rattle.rt_sweep.specs.Rows.{AreAcross}
 use Rattle.rt_strips.specs.Placed.{Placed, bottom_of, top_of}
@@ -12,14 +14,6 @@ use Rattle.rt_columns.specs.Bars.{Line, line, no_line, AreBarsOf, line_at, IsOn}
 -- the number of the strip at a place
 pub tag_is : (over : List Bar) (p : ℕ) (d : Bar) → p < length over → (line_at over p).tag ≡ (get_or over p d).tag
 tag_is over p d h = ap (λ (l : Line). l.tag) (get_or-map line over p d no_line h)
-
-pub below_or_at : (k i : ℕ) → k < i + 1 → (k < i) ⊎ (k ≡ i)
-below_or_at k i h = elim (cases_lt k i) [ inl l ↦ inl l | inr l ↦ inr (omega arith) ]
-
--- a bar of a list that has a place
-pub some_bar : (over : List Bar) (p : ℕ) → p < length over → Bar
-some_bar [] p h = absurd (omega arith)
-some_bar (b ∷ bs) p h = b
 
 pub rises_across : (over : List Bar) → AreAcross over → (p q : ℕ) → p ≤ q → q < length over → (line_at over p).bottom ≤ℤ (line_at over q).bottom
 rises_across over across p q h l = elim (below_or_at p q (omega arith)) [

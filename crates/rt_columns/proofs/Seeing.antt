@@ -2,6 +2,7 @@
 use Rattle.std.proofs.Common.{◌≡◌, ℕ, ◌+◌, ◌<◌, ◌≤◌, ◌≤ℤ◌, ◌<ℤ◌, List, [], ◌∷◌, ◌++◌, length, get_or, sym, ap₂, subst, ◌∙◌, arith, inl, inr}
 use Rattle.std.proofs.lemmas.Int.{ints}
 use Rattle.std.proofs.lemmas.Bool.{cases_lt}
+use Rattle.rt_cells.proofs.Numbers.{below_or_at}
 use Rattle.rt_sweep.specs.declared.bar.Bar.{Bar}
 use Rattle.rt_rows.specs.declared.name.Name.{Name}
 use Rattle.rt_rows.specs.declared.name.Name.TheVariants.{Gap}
@@ -9,7 +10,7 @@ use Rattle.rt_strips.specs.Placed.{Placed}
 use Rattle.rt_columns.specs.Adding.{Adds}
 use Rattle.rt_columns.specs.Bars.{AreBarsOf, line_at, IsOn, IsSeen, IsFirstAbove, IsGapName, IsGapFrom, IsGapBelow, IsLowerTop}
 use Rattle.rt_columns.proofs.Adding.{adds_none, adds_one, adds_both, adds_as}
-use Rattle.rt_columns.proofs.Places.{below_or_at, line_of, rises, tag_is}
+use Rattle.rt_columns.proofs.Places.{line_of, rises, tag_is}
 
 -- one strip more that doesn't lie above
 pub first_more : (over : List Bar) (p first : ℕ) → (line_at over first).bottom <ℤ (line_at over p).top

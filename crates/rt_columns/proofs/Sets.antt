@@ -1,5 +1,6 @@
 -- The names of bars are those of the strips over a column.
 use Rattle.std.proofs.Common.{◌≡◌, ℕ, ◌<◌, ℤ, ◌≤ℤ◌, List, length, refl, sym, ap, ap₂, subst, subst₂, ◌∙◌}
+use Rattle.rt_sweep.proofs.Passing.{some_bar}
 use Rattle.rt_sweep.specs.declared.bar.Bar.{Bar}
 use Rattle.rt_rows.specs.declared.name.Name.{Name}
 use Rattle.rt_rows.specs.declared.name.Name.TheVariants.{Gap, Run}
@@ -9,7 +10,7 @@ use Rattle.rt_columns.specs.Bars.IsReached.{here, onward}
 use Rattle.rt_columns.specs.Bars.{line_at, IsGapAmong, IsReached, IsRunAmong}
 use Rattle.rt_columns.specs.Columns.IsChainIn.{one as alone, onward as and_on}
 use Rattle.rt_columns.specs.Columns.{IsGapIn, IsChainIn, IsRunIn, AreBarsOver}
-use Rattle.rt_columns.proofs.Places.{tag_is, line_of, some_bar}
+use Rattle.rt_columns.proofs.Places.{tag_is, line_of}
 
 -- a chain begins in the set
 pub first_over : (strips : List Placed) (Over : ℕ → Type 0) (i j : ℕ) → IsChainIn strips Over i j → Over i

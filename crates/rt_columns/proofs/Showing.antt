@@ -2,6 +2,7 @@
 use Rattle.std.proofs.Common.{◌≡◌, ℕ, ◌+◌, ◌<◌, ℤ, pos, ◌+ℤ◌, ◌≤ℤ◌, ◌<ℤ◌, ◌⊎◌, List, [], refl, sym, subst, ◌∙◌, arith, inl, inr}
 use Rattle.std.proofs.lemmas.Int.{ints, clamps}
 use Rattle.rt_cells.specs.Line.{gap_of}
+use Rattle.rt_cells.proofs.Numbers.{below_or_at}
 use Rattle.rt_tech.specs.Tech.{space_of}
 use Rattle.rt_rows.specs.declared.name.Name.{Name}
 use Rattle.rt_rows.specs.declared.row.Var.{Var}
@@ -20,7 +21,6 @@ use Rattle.rt_columns.specs.Columns.IsShownWhere.{gap, run}
 use Rattle.rt_columns.specs.Columns.{IsGapIn, IsChainIn, IsRunIn, IsOver, IsShownSomewhere}
 use Rattle.rt_columns.specs.Shown.IsShown.{seen, chained}
 use Rattle.rt_columns.specs.Shown.{IsShown, ListsShown}
-use Rattle.rt_columns.proofs.Places.{below_or_at}
 
 pub no_masks : (strips : List Placed) (left right : ℕ → ℤ) (names : List Name) → names ≡ [] → ListsMasks strips left right 0 names
 no_masks strips left right names e = subst (ListsMasks strips left right 0) (sym e) (record { exact = λ name. (λ c. absurd (omega (arith, c.1)), λ h. absurd (omega (arith, h.below))) })

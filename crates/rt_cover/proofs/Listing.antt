@@ -4,6 +4,7 @@ use Rattle.std.specs.Prelude.{IsPermutation}
 use Rattle.std.proofs.lemmas.List.{get_or_default}
 use Rattle.std.proofs.lemmas.List.Elements.{Contains-push, Contains-push_cases, Contains-append_left}
 use Rattle.std.proofs.lemmas.List.Sorted.{Contains-permutation, IsPermutation-sym}
+use Rattle.rt_cells.proofs.Numbers.{last_or_before}
 use Rattle.rt_base.specs.declared.plane.Rect.{Rect}
 use Rattle.rt_base.specs.Plane.{area}
 use Rattle.rt_sweep.specs.declared.bar.Bar.{Bar}
@@ -11,7 +12,6 @@ use Rattle.rt_strips.specs.declared.listing.Strip.{Strip}
 use Rattle.rt_strips.specs.Placed.{Placed, placed}
 use Rattle.rt_strips.proofs.Placed.{strip_is, strip_there}
 use Rattle.rt_cover.specs.Bars.{IsOf, IsAreaBar, IsStripBar, HasStripBar, AreBarsOf}
-use Rattle.rt_cover.proofs.Reading.{last_or_before}
 
 -- no bars yet
 pub no_bars : (m : ℕ) (strips : List Placed) (areas : List Rect) → AreBarsOf m strips 0 areas 0 []

@@ -6,12 +6,13 @@ use Rattle.std.proofs.lemmas.Int.{ints, clamps, by_lt_z}
 use Rattle.std.proofs.lemmas.List.{length-set, get_or-set_same, get_or-set_other}
 use Rattle.std.proofs.lemmas.List.Elements.{Contains-get_or}
 use Rattle.rt_cells.specs.Line.{Within}
+use Rattle.rt_cells.proofs.Numbers.{last_or_before, by_lt_n}
 use Rattle.rt_base.specs.declared.plane.Cell.{Cell}
 use Rattle.rt_sweep.specs.declared.bar.Bar.{Bar}
 use Rattle.rt_sweep.specs.Rows.{AreAcross}
 use Rattle.rt_cover.specs.Covering.{found_at}
 use Rattle.rt_cover.specs.Across.{IsColumnOf, EndRuns, IsReachAt, NotesCell, NotesNone, IsNoted, IsBare, HasColumns, AreLookedAt}
-use Rattle.rt_cover.proofs.Reading.{last_or_before, first_or_after, by_lt_n, by_same_n, same_cell, not_none}
+use Rattle.rt_cover.proofs.Reading.{first_or_after, by_same_n, same_cell, not_none}
 
 low_first : (a b c : ℤ) → a <ℤ b → b ≤ℤ c → a <ℤ c
 low_first a b c h k = omega (arith, ints)

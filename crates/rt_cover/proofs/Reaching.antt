@@ -1,9 +1,9 @@
 -- How far the bars of strips reach, one bar after another.
 use Rattle.std.proofs.Common.{◌≡◌, ℕ, ◌+◌, ◌-◌, ◌^◌, ◌<◌, ◌≤◌, ℤ, negsuc, ◌≤ℤ◌, ◌<ℤ◌, List, length, get_or, ap, subst, sym, ◌∙◌, refl, arith, inl, inr}
 use Rattle.std.proofs.lemmas.Int.{ints}
+use Rattle.rt_cells.proofs.Numbers.{last_or_before}
 use Rattle.rt_sweep.specs.declared.bar.Bar.{Bar}
 use Rattle.rt_cover.specs.Across.{IsReachUpTo, Takes}
-use Rattle.rt_cover.proofs.Reading.{last_or_before}
 
 farther : (a b c : ℤ) → a ≤ℤ b → b ≤ℤ c → a ≤ℤ c
 farther a b c h k = omega (arith, ints)

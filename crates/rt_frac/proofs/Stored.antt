@@ -99,10 +99,3 @@ pub made : (n d x y : ℤ) (found : Option Frac) (P : Type 0) → FitsSigned w12
 made n d x y None P fn fd e f h none =
     absurd (always n d fn fd (subst (λ z. pos 0 <ℤ z) (sym f) h) (subst₂ HasNoFrac (to_z-of_z w128 n fn) (to_z-of_z w128 d fd) none))
 made n d x y (Some r) P fn fd e f h is = subst₂ (λ a b. IsFracOf a b r) (to_z-of_z w128 n fn ∙ e) (to_z-of_z w128 d fd ∙ f) is
-
-pub positive_product : (a b : ℤ) → pos 0 <ℤ a → pos 0 <ℤ b → pos 0 <ℤ (a *ℤ b)
-positive_product (pos (suc m)) (pos (suc n)) h g = omega (arith, ints)
-positive_product (pos zero) b h g = absurd (omega (arith, ints, h))
-positive_product (pos (suc m)) (pos zero) h g = absurd (omega (arith, ints, g))
-positive_product (pos (suc m)) (negsuc n) h g = absurd (omega (arith, ints, g))
-positive_product (negsuc m) b h g = absurd (omega (arith, ints, h))

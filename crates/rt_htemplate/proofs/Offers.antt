@@ -1,20 +1,19 @@
 -- The names that are offered hold all of the template.
-use Rattle.std.proofs.Common.{◌≡◌, ℕ, ◌+◌, ◌≤◌, ℤ, ◌≤ℤ◌, ◌<ℤ◌, List, ◌++◌, length, refl, sym, subst, ◌∙◌, arith, inl, inr}
+use Rattle.std.proofs.Common.{◌≡◌, ℕ, ◌+◌, ◌≤◌, List, ◌++◌, length, refl, sym, subst, ◌∙◌, arith, inl, inr}
 use Rattle.std.specs.Prelude.{Contains}
-use Rattle.std.specs.Int.{int_max, int_min}
 use Rattle.std.proofs.lemmas.Bool.{cases_eq}
-use Rattle.std.proofs.lemmas.Int.{ints, clamps}
 use Rattle.std.proofs.lemmas.List.{get_or_default}
 use Rattle.std.proofs.lemmas.List.Elements.{Contains-append_left, Contains-append_right}
+use Rattle.rt_strips.proofs.Marks.{standing_seam}
 use Rattle.rt_rows.specs.declared.name.Name.{Name}
 use Rattle.rt_rows.specs.declared.name.Name.TheVariants.{Lo, Hi, Zero, Top, Wide, Ll, Rr, Share, Gap}
 use Rattle.rt_rows.specs.declared.row.Row.{Row}
 use Rattle.rt_nets.specs.declared.job.Job.{Job}
 use Rattle.rt_nets.specs.Job.{strips_of}
 use Rattle.rt_strips.specs.declared.contact.Seam.{Seam}
-use Rattle.rt_strips.specs.Placed.{Placed, left_of, right_of}
-use Rattle.rt_strips.specs.Standing.{IsStrip, StandsOn, Touch}
-use Rattle.rt_strips.specs.Seams.{IsSeam, AreSeamsOf}
+use Rattle.rt_strips.specs.Placed.{Placed}
+use Rattle.rt_strips.specs.Standing.{IsStrip, Touch}
+use Rattle.rt_strips.specs.Seams.{AreSeamsOf}
 use Rattle.rt_template.specs.Horizontal.{RowAcross}
 use Rattle.rt_htemplate.specs.Candidates.{names_of_strip, names_of_seam, names_of_pair, names_at_seam, seam_at, pair_at, names_at_pair, AreOffered, AreOfferedAtSeams, AreOfferedForKept, HoldAllNames}
 use Rattle.rt_htemplate.specs.Near.{HoldKeptPairs}
@@ -66,21 +65,6 @@ for_kept job pairs before after hold offered = record {
   ];
 }
 
-left_first : (l r l' r' : ℤ) → int_max l l' <ℤ int_min r r' → l ≤ℤ r'
-left_first l r l' r' h = omega (arith, ints, clamps)
-
-left_second : (l r l' r' : ℤ) → int_max l l' <ℤ int_min r r' → l' ≤ℤ r
-left_second l r l' r' h = omega (arith, ints, clamps)
-
--- where a strip stands on another is a seam
-seam_there : (strips : List Placed) (i j : ℕ) → StandsOn strips i j → IsSeam strips i j
-seam_there strips i j s = record {
-  one_mask = s.strips_of_one_mask;
-  adjoin = s.adjoin;
-  first = left_first (left_of strips i) (right_of strips i) (left_of strips j) (right_of strips j) s.over.common;
-  second = left_second (left_of strips i) (right_of strips i) (left_of strips j) (right_of strips j) s.over.common;
-}
-
 module _ (job : Job) (first strips seams all : List Name) (zero_there : Contains first Zero) (top_there : Contains first Top)
     (of_strips : AreOffered names_of_strip (length (strips_of job)) first strips) (of_seams : AreOfferedAtSeams (strips_of job) strips seams)
     (of_kept : AreOfferedForKept job seams all) where
@@ -91,8 +75,8 @@ module _ (job : Job) (first strips seams all : List Name) (zero_there : Contains
   from_strip i name s c = of_kept.kept name (of_seams.kept name (of_strips.offered i s.below_count name c))
 
   from_touch : (i j : ℕ) (name : Name) → Touch (strips_of job) i j → Contains (names_of_seam i j) name → Contains (names_of_seam j i) name → Contains all name
-  from_touch i j name (inl s) c d = of_kept.kept name (of_seams.offered i j (seam_there (strips_of job) i j s) name c)
-  from_touch i j name (inr s) c d = of_kept.kept name (of_seams.offered j i (seam_there (strips_of job) j i s) name d)
+  from_touch i j name (inl s) c d = of_kept.kept name (of_seams.offered i j (standing_seam (strips_of job) i j s) name c)
+  from_touch i j name (inr s) c d = of_kept.kept name (of_seams.offered j i (standing_seam (strips_of job) j i s) name d)
 
   offered_row : (name : Name) (row : Row) → RowAcross job name row → Contains all name
   offered_row name row (RowAcross.lo i s) = from_strip i (Lo i) s (0, omega arith, refl)

@@ -7,6 +7,7 @@ use Rattle.std.proofs.lemmas.Int.{ints, clamps}
 use Rattle.std.proofs.lemmas.Option.{slice_get_cases}
 use Rattle.std.proofs.lemmas.List.{get_or-map, length-map}
 use Rattle.rt_cells.specs.Line.{gap_of}
+use Rattle.rt_cells.proofs.Lines.{gap_back}
 use Rattle.rt_tech.specs.declared.table.Mask.{Mask}
 use Rattle.rt_tech.specs.declared.table.Tech.{Tech}
 use Rattle.rt_tech.specs.Tech.{mask_count, space_of, space_of_mask}
@@ -17,25 +18,9 @@ use Rattle.rt_nets.specs.Job.{strips_of, IsJob}
 use Rattle.rt_strips.specs.declared.listing.Strip.{Strip}
 use Rattle.rt_strips.specs.Placed.{Placed, placed, strip_at, mask_of, left_of, right_of, bottom_of, top_of}
 use Rattle.rt_strips.specs.Standing.{rows_apart}
-use Rattle.rt_strips.specs.StripsOf.{AreStrips, AreStripsOf}
 use Rattle.rt_strips.proofs.Placed.{strip_is, strip_below}
 use Rattle.rt_template.specs.Horizontal.{IsKeptRightOf, AreNear, near_between}
 use Rattle.rt_htemplate.specs.Near.{side_of, space_in, HoldKeptPairs}
-
--- the strips of some cells are strips
-pub as_strips : (cells : ℕ → ℤ → ℤ → Type 0) (masks : ℕ) (strips : List Placed) → AreStripsOf cells masks strips → AreStrips strips
-as_strips cells masks strips are = record {
-  masks = masks;
-  strips_are = record {
-    on_masks = are.on_masks;
-    nonempty = are.nonempty;
-    same_cells = λ m x y h. (λ c. c, λ c. c);
-    once = are.once;
-    whole_runs = are.whole_runs;
-    unstacked = are.unstacked;
-    in_order = are.in_order;
-  };
-}
 
 -- a rectangle's rows, grouped by its mask
 abbrev rows_of : Placed → Sides
@@ -66,9 +51,6 @@ all_intervals strips k d h =
 
 no_gap : (b t b' t' s : ℤ) → int_max b b' <ℤ int_min t t' → pos 1 ≤ℤ s → gap_of b t b' t' <ℤ s
 no_gap b t b' t' s h g = omega (arith, ints, clamps)
-
-gap_back : (b t b' t' s : ℤ) → gap_of b t b' t' <ℤ s → gap_of b' t' b t <ℤ s
-gap_back b t b' t' s h = omega (arith, ints, clamps)
 
 not_beside : (l r : ℤ) → l <ℤ r → r ≤ℤ l → ⊥
 not_beside l r h g = omega (arith, ints)

@@ -2,12 +2,13 @@
 use Rattle.std.specs.Prelude.{ℕ, ◌+◌, ℤ, pos, nat_abs, nat_eq, Bool, false, if◌then◌else◌, Option, Some, None, option_and_then, codes}
 use Rattle.std.specs.Option.{option_map_or}
 use Rattle.toml.specs.Data.{Data, Items, no_items, item, as_integer}
+use Rattle.rt_keys.specs.declared.indexes.TheConstants.{INDEX_LIMIT}
 use Rattle.rt_keys.specs.Document.{read_at, as_members}
 use Rattle.rt_keys.specs.Numbers.{is_within}
 
--- the number as an index, where it may be one: from 0 to 2 ^ 32 - 1
+-- the number as an index, where it may be one
 abbrev pub as_index : ℤ → Option ℕ
-as_index number = if is_within (pos 0) (pos 4294967295) number then Some (nat_abs number) else None
+as_index number = if is_within (pos 0) INDEX_LIMIT number then Some (nat_abs number) else None
 
 -- the index of an entry, where it has one
 abbrev pub index_of : Data → Option ℕ

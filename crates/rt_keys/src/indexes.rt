@@ -12,6 +12,9 @@ use indexmap::IndexMap;
 use std::alloc::Global;
 use toml::Value;
 
+/// The largest index of a device. (This project's own: a number of 32 bits.)
+pub const INDEX_LIMIT: i64 = 4_294_967_295;
+
 /// The entries of a list by their indexes: each index with the number of the first entry that has it.
 #[derive(Drop)]
 pub struct Indexes<'a> {
@@ -26,7 +29,7 @@ pub struct Indexes<'a> {
 fn as_index(number: i64) -> Option<u32>
     ensures { result ≡ as_index_of number }
 {
-    if 0 <= number && number <= 4_294_967_295 {
+    if 0 <= number && number <= INDEX_LIMIT {
         Some(number as u32)
     } else {
         None

@@ -1,7 +1,8 @@
 -- Two metals with a cut between them are carried.
-use Rattle.std.proofs.Common.{◌≡◌, ℕ, zero, suc, ◌<◌, ℤ, pos, ◌+ℤ◌, ◌≤ℤ◌, ◌<ℤ◌, [], ◌∷◌, Contains, refl, sym, ap, ◌∙◌, subst, arith, inl}
+use Rattle.std.proofs.Common.{◌≡◌, ℕ, zero, suc, ◌<◌, ℤ, pos, ◌+ℤ◌, ◌≤ℤ◌, [], ◌∷◌, Contains, refl, sym, ap, ◌∙◌, subst, arith, inl}
 use Rattle.std.proofs.lemmas.Int.{ints}
 use Rattle.rt_cells.specs.Rectangles.{Rectangle, IsNonempty, Holds}
+use Rattle.rt_cells.proofs.Lines.{past_one}
 use Rattle.rt_family.specs.Strips.{StandsOn}
 use Rattle.rt_family.specs.Carried.{IsCarried}
 use Rattle.rt_family.proofs.Chains.{Contains-head, Contains-rest}
@@ -19,9 +20,6 @@ drawn_full : (i : ℕ) → (((drawn_of i).left +ℤ pos 1) ≤ℤ (drawn_of i).r
 drawn_full zero = (omega (arith, ints), omega (arith, ints))
 drawn_full (suc zero) = (omega (arith, ints), omega (arith, ints))
 drawn_full (suc (suc i)) = (omega (arith, ints), omega (arith, ints))
-
-tall_by : (low high : ℤ) → (low +ℤ pos 1) ≤ℤ high → low <ℤ high
-tall_by low high h = omega (arith, ints)
 
 -- each mask has one strip
 module _ (m : ℕ) where
@@ -48,7 +46,7 @@ module _ (m : ℕ) where
     numbers = record { some_width = omega (arith, ints); some_space = λ i j h k. omega (arith, ints); even_space = λ i j h k. refl };
     family = record { nonempty = λ i h. full i; parted = λ i j h k row. inl (one_strip j i k h) };
     wide = λ i h. (drawn_full i).0;
-    tall = λ i h. tall_by _ _ (drawn_full i).1;
+    tall = λ i h. past_one _ _ (drawn_full i).1;
     adjoin = λ i j s. absurd (none_stands i j s);
     share = λ i j s. absurd (none_stands i j s);
     across = λ i j h k row right. absurd (none_right i j h k right);

@@ -1,8 +1,9 @@
 -- Positions that meet both templates lie in the extents.
-use Rattle.std.proofs.Common.{ℕ, ℤ, pos, ◌+ℤ◌, ◌*ℤ◌, ◌≤ℤ◌, ◌<ℤ◌, arith}
+use Rattle.std.proofs.Common.{ℕ, ℤ, pos, ◌+ℤ◌, ◌*ℤ◌, ◌≤ℤ◌, arith}
 use Rattle.std.proofs.lemmas.Int.{ints}
 use Rattle.rt_cells.specs.Rectangles.{Rectangle, scaled}
-use Rattle.rt_cells.proofs.Times.{times_le, times_lt, not_negative}
+use Rattle.rt_cells.proofs.Times.{times_le, times_lt, not_negative, product_not_negative}
+use Rattle.rt_cells.proofs.Lines.{past, past_one}
 use Rattle.rt_nets.specs.declared.job.Job.{Job}
 use Rattle.rt_nets.specs.Job.{strips_of, IsJob}
 use Rattle.rt_rows.specs.declared.positions.TheConstants.{EXTENT_LIMIT}
@@ -18,17 +19,8 @@ use Rattle.rt_template.specs.Vertical.{RowUpwards, MeetsUpwards}
 use Rattle.rt_moved.specs.Laws.{LiesIn, IsExtent, MovedFits}
 use Rattle.rt_moved.proofs.Drawn.{in_steps}
 
-past : (low by high : ℤ) → pos 1 ≤ℤ by → (low +ℤ by) ≤ℤ high → low <ℤ high
-past low by high h k = omega (arith, ints)
-
-past_one : (low high : ℤ) → (low +ℤ pos 1) ≤ℤ high → low <ℤ high
-past_one low high k = omega (arith, ints)
-
 ends_in : (high extent : ℤ) → (high +ℤ pos 0) ≤ℤ extent → high ≤ℤ extent
 ends_in high extent h = omega (arith, ints)
-
-not_below : (grid place : ℤ) → pos 0 ≤ℤ grid → pos 0 ≤ℤ place → pos 0 ≤ℤ (grid *ℤ place)
-not_below grid place h k = omega (arith, ints, times_le grid (pos 0) place h k)
 
 -- what lies in extents does so on a finer grid
 on_grid : (grid width height : ℤ) (r : Rectangle) → pos 1 ≤ℤ grid → LiesIn width height r → LiesIn (grid *ℤ width) (grid *ℤ height) (scaled grid r)
@@ -36,9 +28,9 @@ on_grid grid width height r some h =
     let whole = not_negative grid some in
     record {
       nonempty = record { across = times_lt grid r.left r.right some h.nonempty.across; upwards = times_lt grid r.bottom r.top some h.nonempty.upwards };
-      left = not_below grid r.left whole h.left;
+      left = product_not_negative grid r.left whole h.left;
       right = times_le grid r.right width whole h.right;
-      bottom = not_below grid r.bottom whole h.bottom;
+      bottom = product_not_negative grid r.bottom whole h.bottom;
       top = times_le grid r.top height whole h.top;
     }
 

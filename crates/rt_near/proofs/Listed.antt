@@ -7,6 +7,7 @@ use Rattle.std.proofs.lemmas.Int.{ints, clamps}
 use Rattle.std.proofs.lemmas.List.{get_or_past}
 use Rattle.std.proofs.lemmas.List.Elements.{Contains-append_left, Contains-push, Contains-push_cases}
 use Rattle.rt_cells.specs.Line.{gap_of}
+use Rattle.rt_cells.proofs.Lines.{gap_back}
 use Rattle.rt_near.specs.declared.near.Sides.{Sides}
 use Rattle.rt_near.specs.declared.entry.Entry.{Entry}
 use Rattle.rt_near.specs.Near.{sides_at, AreNear, ListsNearPairs}
@@ -86,9 +87,6 @@ more_pairs entries place before after are added = record {
     ],
   );
 }
-
-gap_back : (low high low' high' reach : ℤ) → gap_of low high low' high' <ℤ reach → gap_of low' high' low high <ℤ reach
-gap_back low high low' high' reach h = omega (arith, ints, clamps)
 
 abbrev in_order : ℕ → ℕ → ℕ × ℕ
 in_order m n = cond (nat_lt m n) (m, n) (n, m)

@@ -3,6 +3,7 @@ use Rattle.std.proofs.Common.{◌≡◌, ℕ, zero, suc, ◌+◌, ◌-◌, ◌<�
 use Rattle.std.proofs.lemmas.Int.{ints}
 use Rattle.std.proofs.lemmas.List.{get_or_past}
 use Rattle.std.proofs.lemmas.Option.{same_Some, slice_get-get_or}
+use Rattle.rt_cells.proofs.Entries.{contains_at, contained_at}
 use Rattle.rt_base.specs.declared.plane.Axis.{Axis}
 use Rattle.rt_base.specs.declared.plane.Axis.TheVariants.{Across, Upwards}
 use Rattle.rt_rows.specs.declared.name.Name.{Name}
@@ -30,7 +31,7 @@ use Rattle.rt_path.specs.WaysBack.{AreArcs}
 use Rattle.rt_path.specs.Steps.{strips_for_rows, place_of, side_at, var_at, step_for, value_of, HaveValues, HasLast}
 use Rattle.rt_path.proofs.Gets.{one_element}
 use Rattle.rt_path.proofs.Places.{low_there, high_there, place_extent, placed, IsStepFor, step_is, strips_within}
-use Rattle.rt_path.proofs.Named.{contains_at, contained_at, all_at, from_map, into_map, mentioned, IsEnd, HasEnds, ends, mention_within, counts}
+use Rattle.rt_path.proofs.Named.{all_at, from_map, into_map, mentioned, IsEnd, HasEnds, ends, mention_within, counts}
 use Rattle.rt_path.proofs.Named.IsEnd.{at_origin, at_var}
 
 below_or_not : (i n : ℕ) → (i < n) ⊎ (n ≤ i)

@@ -3,6 +3,7 @@ use Rattle.std.proofs.Common.{◌≡◌, ◌≢◌, ℕ, zero, suc, ◌<◌, ◌
 use Rattle.std.proofs.lemmas.Int.{ints}
 use Rattle.std.proofs.lemmas.Bool.{cases_eq}
 use Rattle.std.proofs.lemmas.Option.{none-some, same_Some, slice_get_within, slice_get-get_or}
+use Rattle.rt_cells.proofs.Entries.{before_or_end}
 use Rattle.rt_rows.specs.declared.proof.Share.{Share}
 use Rattle.rt_proofs.specs.Rows.{sum_of}
 use Rattle.rt_path.specs.declared.event.Step.{Step}
@@ -12,7 +13,7 @@ use Rattle.rt_path.specs.Chains.{once, AddUp}
 use Rattle.rt_path.specs.Raises.{AllFit, Comes, first, IsLog}
 use Rattle.rt_path.specs.WaysBack.{LeadsOn, IsCircle, IsStepBack, HasNoCircle, marks, IsMark, IsBack, IsOnWayBack, AfterWalk, IsChain, IsWayTo}
 use Rattle.rt_path.proofs.Chains.{no_shares, one_share}
-use Rattle.rt_path.proofs.Gets.{before_or_end, one_element}
+use Rattle.rt_path.proofs.Gets.{one_element}
 
 -- no shares lead nowhere
 pub leads_nowhere : (steps : List Step) (place : ℕ) → LeadsOn steps [] place place (pos 0)

@@ -1,5 +1,6 @@
 -- What proofs of rows in a list say of values that meet each of them.
 use Rattle.std.proofs.Common.{ℤ, ◌≤ℤ◌, List, sym, subst}
+use Rattle.rt_cells.proofs.Entries.{contained_at}
 use Rattle.rt_rows.specs.declared.name.Name.{Name}
 use Rattle.rt_rows.specs.declared.row.Var.{Var}
 use Rattle.rt_rows.specs.declared.row.Row.{Row}
@@ -12,7 +13,7 @@ use Rattle.rt_proofs.specs.Trees.Goal.{Least, Refute}
 use Rattle.rt_proofs.proofs.Bounds.{least_reached, refuted}
 use Rattle.rt_proofs.proofs.Given.{meets_sum}
 use Rattle.rt_path.specs.Longest.{MeetsEachRow, Listed}
-use Rattle.rt_path.proofs.Named.{contained_at, all_at}
+use Rattle.rt_path.proofs.Named.{all_at}
 
 -- values that meet each row of the list meet each row that a proof takes from it
 pub listed_met : (rows : List (Name × Row)) (other : Var → ℤ) → MeetsEachRow rows other → MeetsAll (Listed rows) other

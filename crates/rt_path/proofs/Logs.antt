@@ -3,11 +3,11 @@ use Rattle.std.proofs.Common.{◌≡◌, ◌≢◌, ℕ, ◌+◌, ◌<◌, ◌+�
 use Rattle.std.proofs.lemmas.Int.{ints}
 use Rattle.std.proofs.lemmas.Bool.{cases_eq}
 use Rattle.std.proofs.lemmas.Option.{same_Some, slice_get_within}
+use Rattle.rt_cells.proofs.Entries.{get_before, get_end, before_or_end}
 use Rattle.rt_path.specs.declared.event.Step.{Step}
 use Rattle.rt_path.specs.declared.event.Event.{Event}
 use Rattle.rt_path.specs.declared.event.Last.{Last}
 use Rattle.rt_path.specs.Raises.{Comes, first, IsLog, last_at, IsLast, AreLasts, event_of, last_of}
-use Rattle.rt_path.proofs.Gets.{get_before, get_end, before_or_end}
 
 -- an event stands where it stood, with one more at the end
 pub comes_still : (steps : List Step) (log : List Event) (more : Event) (i : ℕ) (event : Event) → Comes steps log i event → Comes steps (log ++ more ∷ []) i event

@@ -1,6 +1,7 @@
 -- Which variables and strips the rows name.
 use Rattle.std.proofs.Common.{◌≡◌, ℕ, zero, suc, ◌<◌, ◌≤◌, max, pos, negsuc, List, [], ◌∷◌, Option, Some, None, map, Contains, All, slice_get, slice_index_or, refl, sym, ap, subst, ◌∙◌, ◌⊎◌, inl, inr, arith}
-use Rattle.std.proofs.lemmas.Option.{none-some, same_Some, slice_get_within, slice_get-get_or, get_or_from_slice_get}
+use Rattle.std.proofs.lemmas.Option.{none-some, same_Some, slice_get_within, get_or_from_slice_get}
+use Rattle.rt_cells.proofs.Entries.{contains_at, contained_at}
 use Rattle.rt_base.specs.declared.plane.Axis.{Axis}
 use Rattle.rt_rows.specs.declared.name.Name.{Name}
 use Rattle.rt_rows.specs.declared.row.Var.{Var}
@@ -14,13 +15,6 @@ use Rattle.rt_path.specs.Longest.Mentions.{mentions}
 use Rattle.rt_path.specs.Longest.NamesStrip.{by_low, by_high}
 use Rattle.rt_path.specs.Steps.{strips_for, strips_for_term, strips_for_terms, strips_for_rows, HasThreeTerms, place_of, step_for}
 use Rattle.rt_path.proofs.Places.{strips_low, strips_high, strips_extent, strips_within, three_terms}
-
--- an element of a list, by its number
-pub contains_at : {X : Type 0} (xs : List X) (k : ℕ) (x : X) → slice_get xs k ≡ Some x → Contains xs x
-contains_at xs k x e = (k, slice_get_within xs k x e, get_or_from_slice_get xs k x x e)
-
-pub contained_at : {X : Type 0} (xs : List X) (x : X) → Contains xs x → (k : ℕ) × (slice_get xs k ≡ Some x)
-contained_at xs x h = (h.0, slice_get-get_or xs h.0 x h.1 ∙ ap (λ y. Some y) h.2)
 
 pub all_at : {X : Type 0} (P : X → Type 0) (xs : List X) (k : ℕ) (x : X) → All P xs → slice_get xs k ≡ Some x → P x
 all_at P xs k x all e = subst (λ y. P y) (get_or_from_slice_get xs k x x e) (all k x (slice_get_within xs k x e))

@@ -3,6 +3,7 @@ use Rattle.std.proofs.Common.{◌≡◌, ◌≢◌, ℕ, ◌+◌, ◌<◌, ◌�
 use Rattle.std.proofs.lemmas.Int.{ints}
 use Rattle.std.proofs.lemmas.Bool.{cases_eq}
 use Rattle.std.proofs.lemmas.Option.{same_Some, slice_get_within, slice_get-get_or}
+use Rattle.rt_cells.proofs.Entries.{get_end}
 use Rattle.rt_rows.specs.declared.positions.TheConstants.{EXTENT_LIMIT}
 use Rattle.rt_path.specs.declared.event.Step.{Step}
 use Rattle.rt_path.specs.declared.event.Event.{Event}
@@ -12,7 +13,6 @@ use Rattle.rt_path.specs.Raises.{IsFit, AllFit, IsLog, last_at, IsShort, IsGoing
 use Rattle.rt_path.specs.Raises.IsSettled.{quiet, late}
 use Rattle.rt_path.specs.Raises.IsCutShort.{long, at_origin}
 use Rattle.rt_path.specs.Raises.IsAfterRaises.{cut_short, whole}
-use Rattle.rt_path.proofs.Gets.{get_end}
 use Rattle.rt_path.proofs.Logs.{still_log, kept_same, kept_other, still_lasts}
 
 -- one raise more reaches one limit farther

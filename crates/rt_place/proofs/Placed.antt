@@ -1,6 +1,6 @@
 -- From the least positions along an axis to those of a template, and from a refutation to that none meet it.
-use Rattle.std.proofs.Common.{◌≡◌, ℕ, zero, suc, ◌<◌, ◌≤◌, ℤ, pos, ◌+ℤ◌, ◌≤ℤ◌, ◌<ℤ◌, ◌⊎◌, inl, inr, List, length, refl, sym, ◌∙◌, subst, arith}
-use Rattle.std.proofs.lemmas.Int.{ints}
+use Rattle.std.proofs.Common.{◌≡◌, ℕ, zero, suc, ◌<◌, ◌≤◌, ℤ, ◌⊎◌, inl, inr, List, length, refl, sym, ◌∙◌, subst, arith}
+use Rattle.rt_cells.proofs.Lines.{past}
 use Rattle.rt_base.specs.declared.plane.Axis.{Axis}
 use Rattle.rt_base.specs.declared.plane.Axis.TheVariants.{Across, Upwards}
 use Rattle.rt_rows.specs.declared.name.Name.{Name}
@@ -135,9 +135,6 @@ pub differences_upwards : (job : Job) (columns : Positions) → IsMeasured job.t
     → HoldsRows (RowUpwards job (places columns)) rows → AreDifferences Upwards rows
 differences_upwards job columns target few rows holds =
     differences Upwards (length (strips_of job)) (RowUpwards job (places columns)) (template_upwards job (places columns) target few) rows holds
-
-past : (low by high : ℤ) → pos 1 ≤ℤ by → (low +ℤ by) ≤ℤ high → low <ℤ high
-past low by high h k = omega (arith, ints, h, k)
 
 same_length : (n m : ℕ) → n ≡ m → m ≤ n
 same_length n m e = omega (arith, e)

@@ -1,17 +1,11 @@
 -- Products of whole numbers: their order and grouping don't matter.
 use Rattle.std.proofs.Common.{◌≡◌, ℤ, pos, neg_ℤ, ◌+ℤ◌, ◌-ℤ◌, ◌*ℤ◌, sym, ap, ◌∙◌}
-use Rattle.rt_cells.proofs.Times.{times_sum, times_sub}
-use lib.IntN.{*ℤ_comm, ℤ_ind, zero-*ℤ, suc_ℤ-*ℤ, pred_ℤ-*ℤ, +ℤ_one, -ℤ_one}
+use Rattle.rt_cells.proofs.Times.{times_sum, times_sub, one_more, one_less}
+use lib.IntN.{*ℤ_comm, ℤ_ind, zero-*ℤ}
 
 -- two factors may change places
 pub times_comm : (a b : ℤ) → a *ℤ b ≡ b *ℤ a
 times_comm a b = *ℤ_comm a b
-
-one_more : (a b : ℤ) → (a +ℤ pos 1) *ℤ b ≡ a *ℤ b +ℤ b
-one_more a b = ap (λ z. z *ℤ b) (+ℤ_one a) ∙ suc_ℤ-*ℤ a b
-
-one_less : (a b : ℤ) → (a +ℤ neg_ℤ (pos 1)) *ℤ b ≡ a *ℤ b -ℤ b
-one_less a b = ap (λ z. z *ℤ b) (-ℤ_one a) ∙ pred_ℤ-*ℤ a b
 
 -- three factors may be grouped either way
 pub times_assoc : (a b c : ℤ) → (a *ℤ b) *ℤ c ≡ a *ℤ (b *ℤ c)

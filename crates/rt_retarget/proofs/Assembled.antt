@@ -3,7 +3,6 @@ use Rattle.std.proofs.Common.{◌≡◌, ◌≢◌, ℕ, ◌≤◌, ℤ, pos, Li
 use Rattle.std.proofs.lemmas.List.{length-map}
 use Rattle.gds_flat.specs.declared.error.FlatError.{FlatError}
 use Rattle.gds_flat.specs.declared.error.FlatError.TheVariants as flat
-use Rattle.gds_flat.specs.Drawn.{AreDrawable}
 use Rattle.gds_flat.specs.Refused.{IsFlattened, FlatRefused}
 use Rattle.gds_stream.specs.declared.library.Library.{Library}
 use Rattle.gds_stream.specs.Contents.{Stream}
@@ -34,7 +33,7 @@ use Rattle.rt_retarget.specs.declared.source.TheConstants.{STRIP_LIMIT}
 use Rattle.rt_retarget.specs.Files.{Given}
 use Rattle.rt_retarget.specs.Stages.{AreRead, IsParsed, IsLaid, IsStripped, IsSound, IsTaken, IsWished}
 use Rattle.rt_retarget.specs.Jobs.{AreMatched, IsFlatRefusal, IsTableRefusal, IsFaultOfParsed, IsFaultOfTaken, IsFaultOfView, IsSoundView, IsCheckedCell, IsReadSource}
-use Rattle.rt_retarget.proofs.Cells.{IsCellOf, reached_cell, are_drawable}
+use Rattle.rt_retarget.proofs.Cells.{IsCellOf, reached_cell}
 use Rattle.rt_retarget.proofs.Stripped.{covered_alike}
 
 -- the tables of files are matched
@@ -46,10 +45,6 @@ matched files inputs read =
       target = measured inputs.tables.target (valid_table Target files.ttable inputs.tables.target tables.target_read);
       same_masks = same_mask_count inputs.tables.source inputs.tables.target tables.same_form;
     }
-
--- what a stream holds can be drawn
-pub stream_is_drawable : (source : List ℕ) (library : Library) → Stream source library → AreDrawable library.structures
-stream_is_drawable source library stream = are_drawable library.structures (stream_is_lawful source library stream).structures
 
 -- a refusal of the flattening is one of the files
 pub flat_fault : (inputs : Inputs) (library : Library) (error : FlatError) (fault : Fault)

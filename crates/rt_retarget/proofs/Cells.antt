@@ -1,40 +1,12 @@
 -- The cell of a library that is flattened, and its elements.
-use Rattle.std.proofs.Common.{◌≡◌, ℕ, ◌<◌, ◌≤◌, ◌-◌, List, [], ◌∷◌, length, drop, Some, Option, Bool, true, false, cond, zero, suc, refl, ap, ◌∙◌, sym, subst, arith}
-use Rattle.std.specs.Prelude.{All, slice_get}
+use Rattle.std.proofs.Common.{◌≡◌, ◌<◌, ◌≤◌, List, [], ◌∷◌, length, Some, Option, Bool, true, false, cond, suc, refl, ap, ◌∙◌, sym, subst, arith}
+use Rattle.std.specs.Prelude.{All}
 use Rattle.std.proofs.lemmas.Slice.Eq.{bytes_eq-Decides}
-use Rattle.rt_base.specs.declared.plane.Point.{Point}
-use Rattle.gds_stream.specs.declared.library.Element.{Element}
-use Rattle.gds_stream.specs.declared.library.Element.TheVariants.{Boundary, Path, Sref, Aref, Label, BoxShape}
 use Rattle.gds_stream.specs.declared.library.Structure.{Structure}
-use Rattle.gds_stream_laws.specs.Lawful.{IsPolygon, HasPoints, IsLawfulStructure}
-use Rattle.gds_slabs.specs.Polygon.{IsClosed}
+use Rattle.gds_stream_laws.specs.Lawful.{IsLawfulStructure}
 use Rattle.gds_flat.specs.Reach.{Name, is_named, structure_named}
 use Rattle.gds_flat.specs.Reach.Order.{known, new}
 use Rattle.gds_flat.specs.Refused.{IsReached}
-use Rattle.gds_flat.specs.Drawn.{IsDrawable, AreDrawable}
-
--- the entry behind so many others
-at_behind : (n : ℕ) (points : List Point) (p : Point) (rest : List Point) → drop n points ≡ p ∷ rest → slice_get points n ≡ Some p
-at_behind zero [] p rest e = absurd cc
-at_behind zero (q ∷ points) p rest e = cc
-at_behind (suc n) [] p rest e = absurd cc
-at_behind (suc n) (q ∷ points) p rest e = at_behind n points p rest e
-
-closed : (points : List Point) → IsPolygon points → IsClosed points
-closed [] polygon = let enough = polygon.enough in absurd (omega (arith, enough))
-closed (p ∷ points) polygon = at_behind (length (p ∷ points) - 1) (p ∷ points) p [] (sym polygon.closed)
-
-drawable : (e : Element) → HasPoints e → IsDrawable e
-drawable (Boundary offset layer datatype points) h = closed points h
-drawable (Path offset layer datatype pathtype width points) h = h
-drawable (Sref offset name place at) h = tt
-drawable (Aref offset name place columns rows points) h = tt
-drawable (Label offset layer texttype at text) h = tt
-drawable (BoxShape offset layer boxtype) h = tt
-
--- what a stream holds can be drawn
-pub are_drawable : (structures : List Structure) → All IsLawfulStructure structures → AreDrawable structures
-are_drawable structures lawful i s h j e k = drawable _ ((lawful i s h).elements j e k)
 
 by_name : (first : Structure) (name : Name) (s : Structure) (rest : Option Structure) → IsLawfulStructure first
     → (rest ≡ Some s → IsLawfulStructure s × (s.name ≡ name)) → (b : Bool) → is_named name first ≡ b → cond b (Some first) rest ≡ Some s

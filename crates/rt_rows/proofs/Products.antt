@@ -36,7 +36,7 @@ small_fits : (z : ℤ) → IsSmall z → FitsSigned w128 z
 small_fits (pos n) h = record { sfits = omega (arith, ints, h.high) }
 small_fits (negsuc n) h = record { sfits = omega (arith, ints, h.low) }
 
-product_fits : (z : ℤ) → IsProduct z → FitsSigned w128 z
+pub product_fits : (z : ℤ) → IsProduct z → FitsSigned w128 z
 product_fits (pos n) h = record { sfits = omega (arith, ints, h.high) }
 product_fits (negsuc n) h = record { sfits = omega (arith, ints, h.low) }
 

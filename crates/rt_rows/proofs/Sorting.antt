@@ -48,13 +48,6 @@ pub record AreKeptSoFar (names : List Name) (i : ℕ) (kept : List Name) : Type 
   pub every : (k : ℕ) (d : Name) → k < i → Contains kept (get_or names k d)
   pub in_order : AllPairs ComesBefore kept
 
-pub none_kept : (names : List Name) → AreKeptSoFar names 0 []
-none_kept names = record {
-  each = λ name c. absurd (omega (arith, c.1));
-  every = λ k d h. absurd (omega (arith, h));
-  in_order = λ i j d h g. absurd (omega (arith, g));
-}
-
 module _ (names : List Name) (upwards : IsUpwards names) (i : ℕ) (below : i < length names) where
   -- every name before a new one comes before it
   before_new : IsNew names i → (k : ℕ) (d : Name) → k < i → ComesBefore (get_or names k d) (get_or names i d)

@@ -6,7 +6,7 @@ use Rattle.rt_cells.specs.Cells.{row_of, Joined}
 use Rattle.rt_cells.specs.Cells.Joined.{here, onward}
 use Rattle.rt_cells.specs.Rectangles.{Rectangle, Holds}
 use Rattle.rt_cells.proofs.Lines.{first_place, last_place, antisymmetric, not_before, not_after}
-use Rattle.rt_cells.proofs.Rectangles.{joined_inside}
+use Rattle.rt_cells.proofs.Rectangles.{joined_inside, same_sides}
 use Rattle.rt_rules.specs.Pieces.{IsPiece}
 
 -- a piece of some cells is one of others that are the same
@@ -51,9 +51,6 @@ piece_in cells r q piece other x y h k =
     let low = all r.left r.bottom (record { column = first_place _ _ piece.nonempty.across; row = first_place _ _ piece.nonempty.upwards }) in
     let high = all (r.right -ℤ pos 1) (r.top -ℤ pos 1) (record { column = last_place _ _ piece.nonempty.across; row = last_place _ _ piece.nonempty.upwards }) in
     record { left = low.column.from; right = up_to _ _ r.right high.column; bottom = low.row.from; top = up_to _ _ r.top high.row }
-
-same_sides : (r q : Rectangle) → r.left ≡ q.left → r.right ≡ q.right → r.bottom ≡ q.bottom → r.top ≡ q.top → r ≡ q
-same_sides r q e f g h = rw (e, f, g, h) refl
 
 -- a cell has one piece
 pub one_piece : (cells : ℤ → ℤ → Type 0) (r q : Rectangle) → IsPiece cells r → IsPiece cells q → (x y : ℤ) → Holds r x y → Holds q x y → r ≡ q

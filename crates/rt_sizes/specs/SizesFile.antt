@@ -1,7 +1,9 @@
 -- A sizes file: what it says, and its first fault, key by key.
-use Rattle.std.specs.Prelude.{◌≡◌, ℕ, ◌+◌, pos, negsuc, nat_abs, nat_le, Bool, false, ◌||◌, ◌&&◌, if◌then◌else◌, List, [], ◌∷◌, length, Option, Some, None, is_some, unwrap_or, option_map, codes, bytes_eq}
+use Rattle.std.specs.Prelude.{◌≡◌, ℕ, ◌+◌, pos, neg_ℤ, nat_abs, nat_le, Bool, false, ◌||◌, ◌&&◌, if◌then◌else◌, List, [], ◌∷◌, length, Option, Some, None, is_some, unwrap_or, option_map, codes, bytes_eq}
 use Rattle.std.specs.List.{list_all}
 use Rattle.std.specs.Option.{option_map_or}
+use Rattle.rt_keys.specs.declared.indexes.TheConstants.{INDEX_LIMIT}
+use Rattle.rt_sizes.specs.declared.limits.TheConstants.{AXIS_LIMIT, PIVOT_LIMIT, PIVOTS}
 use Rattle.toml.specs.Data.{Data, Members, Items, as_str, as_array, as_table}
 use Rattle.rt_tech.specs.declared.table.Kind.{Kind}
 use Rattle.rt_tech.specs.declared.table.Tech.{Tech}
@@ -50,7 +52,7 @@ is_mirror word = bytes_eq word (codes "none") || bytes_eq word (codes "find") ||
 -- axis, which is there with the mirror "axis" alone
 abbrev pub axis_fault : Members → Option Fault
 axis_fault file =
-    if bytes_eq (word (codes "mirror") file) (codes "axis") then number_fault (negsuc 1999999999) (pos 2000000000) (codes "axis") file
+    if bytes_eq (word (codes "mirror") file) (codes "axis") then number_fault (neg_ℤ AXIS_LIMIT) AXIS_LIMIT (codes "axis") file
     else unwanted (codes "axis") file
 
 unfoldable pub mirror_fault : Members → Option Fault
@@ -67,10 +69,10 @@ mirror_of file =
 
 -- pivots, where it is there
 unfoldable pub pivots_fault : Members → Option Fault
-pivots_fault file = if has (codes "pivots") file then number_fault (pos 1) (pos 100000) (codes "pivots") file else None
+pivots_fault file = if has (codes "pivots") file then number_fault (pos 1) (pos PIVOT_LIMIT) (codes "pivots") file else None
 
 abbrev pub pivots_of : Members → ℕ
-pivots_of file = if has (codes "pivots") file then nat_abs (number (codes "pivots") file) else 20000
+pivots_of file = if has (codes "pivots") file then nat_abs (number (codes "pivots") file) else PIVOTS
 
 -- the length and the width of an entry
 unfoldable pub wish_fault : Measure → Members → Option Fault
@@ -135,7 +137,7 @@ kinds_of target file = entries_of (kind_sizes target) (list (codes "kind") file)
 -- the index of an entry of the devices
 unfoldable pub index_fault : ℕ → Items → Members → Option Fault
 index_fault place devices entry =
-    number_fault (pos 0) (pos 4294967295) (codes "index") entry
+    number_fault (pos 0) INDEX_LIMIT (codes "index") entry
     or_else test (codes "index") Duplicate (is_first place (indexed (nat_abs (number (codes "index") entry)) devices))
 
 -- an entry of the devices, and the index that it tells

@@ -2,6 +2,7 @@
 #![tactic(auto)]
 
 mod book;
+pub mod limits;
 mod sizes_entries;
 mod sizes_file;
 mod wishing;

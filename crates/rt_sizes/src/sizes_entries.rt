@@ -10,7 +10,7 @@ ghost use Rattle.rt_sizes.specs.SizesFile.{in_target, sized_fault, entry_fault, 
 use rt_base::List;
 use rt_keys::entries::{Entry, entries};
 use rt_keys::finding::{find, is_first, names};
-use rt_keys::indexes::{Indexes, by_index, find_index};
+use rt_keys::indexes::{INDEX_LIMIT, Indexes, by_index, find_index};
 use rt_keys::keys::{entry_table, has, list, others, word};
 use rt_keys::names::Names;
 use rt_keys::numbers::{length, number_within};
@@ -174,7 +174,7 @@ impl Told for Indexes<'_> {
 
     #[tactic(auto, unfolding(crate::specs::SizesFile::index_fault))]
     fn number(&self, alloc: Global, place: usize, entry: &Table) -> Result<u32, Stop> {
-        let number = number_within(alloc, entry, "index", 0, 4_294_967_295)?;
+        let number = number_within(alloc, entry, "index", 0, INDEX_LIMIT)?;
         let index = number as u32;
         tested(
             alloc,

@@ -7,6 +7,7 @@ ghost use Rattle.rt_keys.specs.Document.{number as number_at, word as word_at, l
 ghost use Rattle.rt_keys.specs.Faults.{Reads, others as others_of};
 ghost use Rattle.rt_sizes.specs.SizesFile.{is_printable as is_printable_of, is_cell as is_cell_of, is_mirror as is_mirror_of, cell_fault, mirror_fault, mirror_of, pivots_fault, pivots_of, later_fault, kinds_of, devices_of, lists_fault, sizes_fault, sizes_of, DescribesSizes, RefusesFile};
 
+use crate::limits::{AXIS_LIMIT, PIVOT_LIMIT, PIVOTS};
 use crate::sizes_entries::{devices, kinds};
 use rt_base::{List, Text};
 use rt_keys::TableError;
@@ -89,7 +90,7 @@ fn mirror(alloc: Global, file: &Table) -> Result<Mirror, Stop>
     let kind = word(alloc, file, "mirror")?;
     tested(alloc, "mirror", TableCause::Range, is_mirror(kind))?;
     if kind == "axis" {
-        let axis = number_within(alloc, file, "axis", -2_000_000_000, 2_000_000_000)?;
+        let axis = number_within(alloc, file, "axis", -AXIS_LIMIT, AXIS_LIMIT)?;
         Ok(Mirror::At(axis))
     } else {
         unwanted(alloc, file, "axis")?;
@@ -107,10 +108,10 @@ fn pivots(alloc: Global, file: &Table) -> Result<u64, Stop>
     ensures { Reads result (pivots_fault (table_view file.now)) (λ n. n ≡ pivots_of (table_view file.now)) }
 {
     if has(file, "pivots") {
-        let pivots = number_within(alloc, file, "pivots", 1, 100_000)?;
+        let pivots = number_within(alloc, file, "pivots", 1, PIVOT_LIMIT as i64)?;
         Ok(pivots.unsigned_abs())
     } else {
-        Ok(20_000)
+        Ok(PIVOTS)
     }
 }
 

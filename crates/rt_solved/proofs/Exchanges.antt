@@ -2,13 +2,14 @@
 use Rattle.std.proofs.Common.{◌≡◌, ℕ, zero, suc, ◌<◌, ℤ, pos, negsuc, neg_ℤ, ◌+ℤ◌, ◌*ℤ◌, ◌<ℤ◌, ◌⊎◌, sym, ap, subst, ◌∙◌, inl, inr, length, set, arith}
 use Rattle.std.proofs.lemmas.List.{get_or-set_same, get_or-set_other}
 use Rattle.std.proofs.lemmas.Int.{ints}
+use Rattle.rt_cells.proofs.Times.{positive_times}
 use Rattle.rt_proofs.proofs.Products.{times_comm}
 use Rattle.rt_solved.specs.Lines.{LiesOn, worth}
 use Rattle.rt_solved.specs.Systems.{columns_of, IsSolution}
 use Rattle.rt_solved.specs.Tables.{IsSolvedFor, IsExchanged, basic_of}
 use Rattle.rt_solved.specs.Laws.{ExchangeSolves}
 use Rattle.rt_solved.proofs.Totals.{worth_none, lies_on, worth_combined, sign_out}
-use Rattle.rt_solved.proofs.Proportional.{times_cancel, positive_times, same_or_not}
+use Rattle.rt_solved.proofs.Proportional.{times_cancel, same_or_not}
 
 turned_times : (n t : ℤ) → n ≡ neg_ℤ t → pos 1 *ℤ n ≡ neg_ℤ (pos 1) *ℤ t +ℤ pos 0 *ℤ t
 turned_times n t e = omega (arith, ints, e)

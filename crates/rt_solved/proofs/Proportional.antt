@@ -3,7 +3,8 @@ use Rattle.std.proofs.Common.{◌≡◌, ℕ, zero, suc, ◌<◌, ◌≤◌, ℤ
 use Rattle.std.proofs.lemmas.Bool.{cases_lt}
 use Rattle.std.proofs.lemmas.Int.{ints}
 use Rattle.rt_cells.proofs.Lines.{antisymmetric}
-use Rattle.rt_cells.proofs.Times.{times_sub, times_positive, times_cancel_le}
+use Rattle.rt_cells.proofs.Times.{times_sub, times_cancel_le}
+pub use Rattle.rt_cells.proofs.Times.{positive_times}
 use Rattle.rt_proofs.proofs.Products.{times_comm, times_assoc}
 use Rattle.rt_proofs.proofs.Values.{sum_times}
 use Rattle.rt_solved.specs.Lines.{worth}
@@ -17,9 +18,6 @@ at_most p q e = omega (arith, ints, e)
 pub times_cancel : (c a b : ℤ) → pos 0 <ℤ c → c *ℤ a ≡ c *ℤ b → a ≡ b
 times_cancel c a b h e =
     antisymmetric a b (times_cancel_le c a b (omega (arith, ints, h)) (at_most _ _ e)) (times_cancel_le c b a (omega (arith, ints, h)) (at_most _ _ (sym e)))
-
-pub positive_times : (a b : ℤ) → pos 0 <ℤ a → pos 0 <ℤ b → pos 0 <ℤ (a *ℤ b)
-positive_times a b h g = let p = times_positive a b (omega (arith, ints, h)) (omega (arith, ints, g)) in omega (arith, ints, p)
 
 -- one number or another
 pub same_or_not : (a b : ℕ) → (a ≡ b) ⊎ (a ≡ b → ⊥)

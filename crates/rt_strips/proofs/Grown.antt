@@ -2,32 +2,12 @@
 use Rattle.std.proofs.Common.{◌≡◌, ℤ, pos, ◌+ℤ◌, ◌-ℤ◌, ◌≤ℤ◌, ◌<ℤ◌, ◌⊎◌, sym, subst, arith, inl, inr}
 use Rattle.std.proofs.lemmas.Int.{ints, by_lt_z}
 use Rattle.std.proofs.Math.Logic.{◌↔◌}
-use Rattle.rt_cells.specs.Line.{Within, IsRun}
+use Rattle.rt_cells.specs.Line.{Within}
 use Rattle.rt_cells.specs.Cells.{row_of}
 use Rattle.rt_cells.specs.Rectangles.{Rectangle, IsNonempty, Holds}
 use Rattle.rt_cells.proofs.Lines.{within, first_place, last_place, not_after, antisymmetric}
+pub use Rattle.rt_cells.proofs.Lines.{one_run}
 use Rattle.rt_strips.specs.Stacks.{HasRun, IsStripOf, raised}
-
--- runs that have a place in common begin at one place
-begin_together : (line : ℤ → Type 0) (a b c d x : ℤ) → IsRun line a b → IsRun line c d → Within a b x → Within c d x → a ≤ℤ c
-begin_together line a b c d x r s h k =
-    by_lt_z c a
-    (λ l. absurd (r.before (s.inside (a -ℤ pos 1) (within _ _ _ (omega (arith, ints)) (omega (arith, ints, h.from, k.to))))))
-    (λ l. l)
-
--- and end at one place
-end_together : (line : ℤ → Type 0) (a b c d x : ℤ) → IsRun line a b → IsRun line c d → Within a b x → Within c d x → b ≤ℤ d
-end_together line a b c d x r s h k =
-    by_lt_z d b
-    (λ l. absurd (s.after (r.inside d (within _ _ _ (omega (arith, ints, h.from, k.to)) l))))
-    (λ l. l)
-
--- runs that have a place in common are one
-pub one_run : (line : ℤ → Type 0) (a b c d x : ℤ) → IsRun line a b → IsRun line c d → Within a b x → Within c d x → (a ≡ c) × (b ≡ d)
-one_run line a b c d x r s h k = (
-  antisymmetric a c (begin_together line a b c d x r s h k) (begin_together line c d a b x s r k h),
-  antisymmetric b d (end_together line a b c d x r s h k) (end_together line c d a b x s r k h),
-)
 
 -- the strip lies behind the piece: it ends at the piece's bottom or below it, or else by its top and to the left of it
 pub record IsBehind (s q : Rectangle) : Type 0 where

@@ -25,5 +25,6 @@ mod Rows
 mod Goings
 mod Columns
 mod Built
+mod Parts
 mod Crossed
 mod Commons

@@ -194,3 +194,7 @@ are_meetings_of strips tops ends begins found of_tops moved of_bottoms are = rec
       (strip_edge Bottom strips begins of_bottoms j s.one_mask.second) (meet_of strips i j s);
   upwards = are.upwards;
 }
+
+-- the meetings that were found are those that the code reads
+pub still_found : (strips : List Placed) (found items : List Meeting) → items ≡ found → AreMeetingsOf strips found → AreMeetingsOf strips items
+still_found strips found items e are = subst (AreMeetingsOf strips) (sym e) are

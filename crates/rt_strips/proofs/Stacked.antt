@@ -10,10 +10,10 @@ use Rattle.std.proofs.Math.Logic.{◌↔◌}
 use Rattle.rt_cells.specs.Line.{Within, IsRun}
 use Rattle.rt_cells.specs.Cells.{row_of}
 use Rattle.rt_cells.specs.Rectangles.{Rectangle, IsNonempty, Holds, Covers}
-use Rattle.rt_cells.proofs.Lines.{within, first_place, last_place, antisymmetric}
+use Rattle.rt_cells.proofs.Lines.{within, first_place, last_place, antisymmetric, one_run}
 use Rattle.rt_strips.specs.OneMask.{IsBefore}
 use Rattle.rt_strips.specs.Stacks.{HasRun, IsStripOf, AreStacked, area_at, no_area, raised}
-use Rattle.rt_strips.proofs.Grown.{one_run, IsBehind, AreBehind, still_strip, raised_strip, new_strip}
+use Rattle.rt_strips.proofs.Grown.{IsBehind, AreBehind, still_strip, raised_strip, new_strip}
 
 pub same_or_not : (j k : ℕ) → (j ≡ k) ⊎ (j ≢ k)
 same_or_not j k = elim (cases_lt j k) [

@@ -37,3 +37,7 @@ pub record AreFirstStrips (cells : ℤ → ℤ → Type 0) (most : ℕ) (kept : 
   pub all_strips : AreAllStrips cells all
   pub kept_first : kept ≡ take most all
   pub counted : count ≡ min (length all) (2 ^ 64 - 1)
+
+-- the rectangles of both lists cover the same cells
+abbrev pub CoverTheSame : List Rectangle → List Rectangle → Type 0
+CoverTheSame first second = (x y : ℤ) → Covers first x y ↔ Covers second x y

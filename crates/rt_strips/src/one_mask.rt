@@ -6,6 +6,7 @@ ghost use Rattle.rt_strips.specs.OneMask.{AreAllStrips, AreFirstStrips, BothCove
 ghost use Rattle.rt_strips.specs.Heights.{IsBarCell, IsBothBarCell, tagged_bar, pile_of, IsBuiltTo};
 
 use common::both_pieces_of;
+use parts::{PART, merged_by_parts};
 use pieces::pieces_of;
 use rt_base::{OutOfMemory, Rect};
 use rt_sweep::{Bar, Sweep};
@@ -13,6 +14,7 @@ use stack::{Stack, empty_stack, put_on};
 use std::alloc::Global;
 
 mod common;
+mod parts;
 mod pieces;
 mod stack;
 
@@ -34,12 +36,24 @@ pub(crate) struct Found {
     pub(crate) count: u64,
 }
 
-/// The strips of what the rectangles cover, of which no more than `most` are kept, those that come first. The one error is a want of memory.
+/// The strips of what the rectangles cover, of which no more than `most` are kept, those that come first. Many rectangles are first made fewer
+/// over each row, part by part. The one error is a want of memory.
 pub(crate) fn strips_within(
     alloc: Global,
     rects: &[Rect],
     most: usize,
 ) -> Result<Found, OutOfMemory>
+    ensures { IfOk result (λ found. AreFirstStrips (Covers (map area rects.now)) most (map area found.strips.items) found.count) }
+{
+    if rects.len() <= PART {
+        return swept(alloc, rects, most);
+    }
+    let merged = merged_by_parts(alloc, rects)?;
+    swept(alloc, merged.as_slice(), most)
+}
+
+// The same, in one sweep over all rectangles.
+fn swept(alloc: Global, rects: &[Rect], most: usize) -> Result<Found, OutOfMemory>
     ensures { IfOk result (λ found. AreFirstStrips (Covers (map area rects.now)) most (map area found.strips.items) found.count) }
 {
     let mut bars = Vec::new(alloc);

@@ -1,4 +1,4 @@
 mod Merging
-mod Tops
+pub mod Tops
 mod Upwards
-mod Passing
+pub mod Passing

@@ -1,9 +1,9 @@
 -- Two lists of bars merged: what has been written when i bars of the one and j of the other have been read.
 use Rattle.std.proofs.Common.{◌≡◌, ℕ, ◌+◌, ◌<◌, ◌≤◌, ℤ, ◌≤ℤ◌, ◌<ℤ◌, ◌⊎◌, List, [], ◌∷◌, ◌++◌, length, get_or, Contains, All, sym, subst, ap, ◌∙◌, arith, inl, inr}
 use Rattle.std.proofs.lemmas.Int.{ints}
-use Rattle.std.proofs.lemmas.Bool.{cases_lt}
 use Rattle.std.proofs.lemmas.List.Elements.{All-push, Contains-append_left, Contains-push, All-nil, All-weaker}
 use Rattle.std.proofs.lemmas.List.Quantifiers.{all_pairs_push}
+use Rattle.rt_cells.proofs.Numbers.{below_or_at}
 use Rattle.rt_sweep.specs.declared.bar.Bar.{Bar}
 use Rattle.rt_sweep.specs.Rows.{AreAcross, IsMerged, IsKept, IsNextAcross}
 
@@ -40,9 +40,6 @@ exchanged going i beginning j row into m = record {
       (λ bar h. (turned _ _ h.0, h.1)) into m.each;
   across = m.across;
 }
-
-pub below_or_at : (k i : ℕ) → k < i + 1 → (k < i) ⊎ (k ≡ i)
-below_or_at k i h = elim (cases_lt k i) [ inl l ↦ inl l | inr l ↦ inr (omega arith) ]
 
 module _ (going : List Bar) (i : ℕ) (beginning : List Bar) (j : ℕ) (row : ℤ) (into : List Bar)
     (m : IsMergedTo going i beginning j row into) (up : AreAcross going) (right : AreAcross beginning) (next : IsNextAcross going i beginning j)

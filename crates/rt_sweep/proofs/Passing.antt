@@ -7,15 +7,15 @@ use Rattle.std.proofs.lemmas.List.{get_or-take, get_or-drop, length-take}
 use Rattle.std.proofs.lemmas.List.Elements.{All-contains, Contains-get_or}
 use Rattle.std.specs.List.Sorted.{IsPermutation}
 use Rattle.std.proofs.lemmas.List.Sorted.{All-permutation, IsPermutation-sym}
+use Rattle.rt_cells.proofs.Numbers.{below_or_at}
 use Rattle.rt_base.specs.Plane.{area}
 use Rattle.rt_sweep.specs.declared.bar.Bar.{Bar}
 use Rattle.rt_sweep.specs.Slabs.{Crosses, Misses, IsSlab, AreRowsFree, AreBelow, IsAtStart, PassesSlab}
 use Rattle.rt_sweep.specs.Rows.{AreUpwards, AreAcross, HasBegun, IsSwept, AreFirstRows, IsLeastTop, IsNextBottom, NoneIsLeft, IsMerged}
 use Rattle.rt_sweep.specs.Steps.{IsStep}
-use Rattle.rt_sweep.proofs.Merging.{below_or_at}
 
 -- a bar of a list that has a place
-some_bar : (bars : List Bar) (i : ℕ) → i < length bars → Bar
+pub some_bar : (bars : List Bar) (i : ℕ) → i < length bars → Bar
 some_bar [] i h = absurd (omega arith)
 some_bar (b ∷ bs) i h = b
 

@@ -2,8 +2,8 @@
 use Rattle.std.proofs.Common.{◌≡◌, ℕ, ◌+◌, ◌<◌, ℤ, ◌≤ℤ◌, ◌<ℤ◌, ◌⊎◌, List, length, get_or, All, refl, sym, subst, ap, ◌∙◌, arith, inl, inr}
 use Rattle.std.proofs.lemmas.Int.{ints}
 use Rattle.std.proofs.lemmas.List.Elements.{at_read}
+use Rattle.rt_cells.proofs.Numbers.{below_or_at}
 use Rattle.rt_sweep.specs.declared.bar.Bar.{Bar}
-use Rattle.rt_sweep.proofs.Merging.{below_or_at}
 
 -- the element at a place, whatever stands for none
 pub read_at : (bars : List Bar) (i : ℕ) (bar : Bar) → i < length bars → bar ≡ get_or bars i bar → (d : Bar) → get_or bars i d ≡ bar

@@ -2,7 +2,7 @@
 use Rattle.std.proofs.Common.{◌≡◌, ℕ, ℤ, pos, negsuc, List, [], All, None, is_some, codes, sym, subst, arith}
 use Rattle.std.proofs.lemmas.Int.{ints}
 use Rattle.toml.specs.Data.{Data, Members, as_array}
-use Rattle.rt_tech.specs.declared.limits.TheConstants.{GRID_LIMIT}
+use Rattle.rt_tech.specs.declared.limits.TheConstants.{GRID_LIMIT, LEAST_LAYER}
 use Rattle.rt_tech.specs.declared.table.Tech.{Tech}
 use Rattle.rt_tech.specs.declared.table.Which.{Which}
 use Rattle.rt_tech.specs.Tech.{IsGrid, IsIgnorable, IsValidTech}
@@ -27,9 +27,9 @@ ignorable : (value : Data) → ignored_fault value ≡ None → IsIgnorable (ign
 unfolding ignored_fault pair_fault ignored_of
 ignorable value h =
     let (form, pair) = or_parts (test_here Form (is_some (as_array value))) _ h in
-    let (first, a) = or_parts (place_fault (negsuc 32767) 0 (as_list value)) _ pair in
+    let (first, a) = or_parts (place_fault LEAST_LAYER 0 (as_list value)) _ pair in
     let (second, counted) = or_parts (place_fault (negsuc 0) 1 (as_list value)) _ a in
-    record { layer = place_limits (negsuc 32767) 0 (as_list value) (omega (arith, ints)) first; number = place_limits (negsuc 0) 1 (as_list value) (omega (arith, ints)) second }
+    record { layer = place_limits LEAST_LAYER 0 (as_list value) (omega (arith, ints)) first; number = place_limits (negsuc 0) 1 (as_list value) (omega (arith, ints)) second }
 
 all_ignorable : (doc : Members) → ignore_fault doc ≡ None → All IsIgnorable (ignored_in doc)
 unfolding ignore_fault

@@ -2,7 +2,7 @@
 use Rattle.std.specs.Prelude.{◌≡◌, ℕ, ℤ, pos, negsuc, Bool, not, ◌&&◌, ◌||◌, nat_le, List, [], ◌∷◌, Option, Some, None, is_some, is_ok, Result, Ok, Err, codes, bytes_eq}
 use Rattle.hex.specs.Hex.{decode_sized}
 use Rattle.toml.specs.Data.{Data, Members, Items, as_str, as_array}
-use Rattle.rt_tech.specs.declared.limits.TheConstants.{GRID_LIMIT, MASK_LIMIT}
+use Rattle.rt_tech.specs.declared.limits.TheConstants.{GRID_LIMIT, MASK_LIMIT, LEAST_LAYER}
 use Rattle.rt_tech.specs.declared.table.Mask.{Mask}
 use Rattle.rt_tech.specs.declared.table.Tech.{Tech}
 use Rattle.rt_tech.specs.declared.table.Which.{Which}
@@ -50,7 +50,7 @@ unlisted_fault doc =
 
 -- ignore: it may be there, as a list of pairs
 unfoldable pub ignored_fault : Data → Option Fault
-ignored_fault value = test_here Form (is_some (as_array value)) or_else pair_fault (negsuc 32767) (negsuc 0) (as_list value)
+ignored_fault value = test_here Form (is_some (as_array value)) or_else pair_fault LEAST_LAYER (negsuc 0) (as_list value)
 
 unfoldable pub ignored_of : Data → ℤ × ℤ
 ignored_of value = pair_of (as_list value)

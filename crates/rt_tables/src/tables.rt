@@ -25,7 +25,7 @@ use rt_keys::names::Names;
 use rt_keys::numbers::{count, number_within, pair};
 use rt_keys::scale::Scale;
 use rt_keys::stop::{Stop, at, bad_table, refused, tested};
-use rt_tech::limits::{GRID_LIMIT, MASK_LIMIT};
+use rt_tech::limits::{GRID_LIMIT, LEAST_LAYER, MASK_LIMIT};
 use rt_tech::{Apart, Enclose, Gates, Kind, Mask, Role, TableCause, Tech, Which};
 use std::alloc::Global;
 use toml::{Table, Value};
@@ -104,7 +104,7 @@ impl Entry for IgnoredRule {
     #[tactic(auto, unfolding(crate::specs::Tables::ignored_fault, crate::specs::Tables::ignored_of))]
     fn read(&self, alloc: Global, _: &[(i16, i16)], value: &Value) -> Result<(i16, i16), Stop> {
         let values = entry_list(alloc, value)?.as_slice();
-        let pair = pair(alloc, values, &(-32768, -1))?;
+        let pair = pair(alloc, values, &(LEAST_LAYER, -1))?;
         Ok(pair)
     }
 }

@@ -9,7 +9,7 @@ use Rattle.rt_tech.specs.declared.table.Kind.{Kind}
 use Rattle.rt_tech.specs.declared.table.Near.{Near}
 use Rattle.rt_tech.specs.declared.table.Role.{Role as MaskRole}
 use Rattle.rt_tech.specs.declared.table.Role.TheVariants.{Metal, Active, Cut, Background}
-use Rattle.rt_tech.specs.declared.limits.TheConstants.{GRID_LIMIT, MASK_LIMIT, KIND_LIMIT, NAME_LIMIT, LAYER_LIMIT, LENGTH_LIMIT}
+use Rattle.rt_tech.specs.declared.limits.TheConstants.{GRID_LIMIT, MASK_LIMIT, KIND_LIMIT, NAME_LIMIT, LAYER_LIMIT, LEAST_LAYER, LENGTH_LIMIT}
 use Rattle.rt_tech.specs.Rules.{is_role_at, has_upper, has_lower, are_enclosed, may_be_apart, are_kept_apart, are_parted}
 use Rattle.rt_tech.specs.Words.{has_role, come_together, is_single, may_have_text, may_be_lower, are_different, is_ignored}
 use Rattle.rt_tech.specs.declared.table.Mask.{Mask}
@@ -118,7 +118,7 @@ pub record IsKept (ignored : List (ℤ × ℤ)) (mask : Mask) : Type 0 where
 
 -- a layer pair that is passed over: -1 as its second number is every number
 pub record IsIgnorable (pair : ℤ × ℤ) : Type 0 where
-  pub layer : (negsuc 32767 ≤ℤ pair.0) × (pair.0 ≤ℤ LAYER_LIMIT)
+  pub layer : (LEAST_LAYER ≤ℤ pair.0) × (pair.0 ≤ℤ LAYER_LIMIT)
   pub number : (negsuc 0 ≤ℤ pair.1) × (pair.1 ≤ℤ LAYER_LIMIT)
 
 -- the masks of a table, together

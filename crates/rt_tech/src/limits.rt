@@ -15,5 +15,8 @@ pub const NAME_LIMIT: usize = 32;
 /// The largest layer, data type or text type that a stream can have. (GDSII Release 6.)
 pub const LAYER_LIMIT: i64 = 32_767;
 
+/// The least layer that an ignored pair can have. (GDSII Release 6: a number of 16 bits.)
+pub const LEAST_LAYER: i16 = -32_768;
+
 /// The largest width, space, side, reach or distance that a table can ask for.
 pub const LENGTH_LIMIT: i64 = 1_000_000;

@@ -17,7 +17,7 @@ use Rattle.rt_template.specs.Horizontal.{space_between, AreOfOneDrawnMask}
 use Rattle.rt_template.specs.Vertical.{IsSeenFrom, IsKeptAbove}
 use Rattle.rt_vtemplate.specs.Steps.{columns_of}
 use Rattle.rt_vtemplate.specs.Open.{IsLessApart, AreClose, AreCloseStrips, LiesAbove, IsAbove, AreBothStrips}
-use Rattle.rt_vtemplate.proofs.Upwards.{job_strips}
+use Rattle.rt_vtemplate.proofs.Upwards.{job_strips, no_circle}
 
 -- a strip that lies above another of a drawn mask, or doesn't
 pub above_there : (masks : ℕ) (a b : Strip) → a.mask ≡ b.mask → a.mask < masks → a.at.y2 ≤ℤ b.at.y1 → LiesAbove masks (placed a) (placed b)
@@ -61,9 +61,6 @@ close_strips job columns i j a b reach v e f g m =
     subst (λ (s : Sides). MatchBool v (AreClose s (columns_of job columns j) (space_between job i j)) (¬ AreClose s (columns_of job columns j) (space_between job i j))) e
     (subst (λ (s : Sides). MatchBool v (AreClose a s (space_between job i j)) (¬ AreClose a s (space_between job i j))) f
     (subst (λ (z : ℤ). MatchBool v (AreClose a b z) (¬ AreClose a b z)) (g ∙ ap (λ (s : Sides). space_of job.target s.group) e) m))
-
-no_circle : (b t b' t' : ℤ) → b <ℤ t → t ≤ℤ b' → b' <ℤ t' → t' ≡ b → ⊥
-no_circle b t b' t' h g k e = omega (arith, ints)
 
 module _ (job : Job) (is_job : IsJob job) (columns : Var → ℤ) (i j : ℕ) (both : AreBothStrips (strips_of job) i j) (above : IsAbove job i j) where
   climbs_told : (v : Bool) → v ≡ tells job.climbs i j → MatchBool v (IsClimbed (strips_of job) i j) (¬ IsClimbed (strips_of job) i j)

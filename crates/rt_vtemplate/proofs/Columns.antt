@@ -1,7 +1,9 @@
 -- Which strips are near each other, by their intervals of columns.
 use Rattle.std.proofs.Common.{◌≡◌, ℕ, ◌<◌, ℤ, pos, ◌<ℤ◌, List, [], ◌∷◌, length, map, get_or, sym, ap, subst, subst₂, ◌∙◌, arith}
 use Rattle.std.proofs.lemmas.List.{get_or-map, length-map}
+use Rattle.std.proofs.lemmas.List.Sorted.{Contains-permutation, IsPermutation-sym}
 use Rattle.std.proofs.lemmas.Option.{slice_get-get_or}
+use Rattle.std.specs.List.Sorted.{IsPermutation}
 use Rattle.rt_cells.specs.Line.{gap_of}
 use Rattle.rt_near.specs.declared.near.Sides.{Sides}
 use Rattle.rt_near.specs.Near.{AreNear, ListsNearPairs}
@@ -16,6 +18,16 @@ use Rattle.rt_template.specs.Vertical.{columns_apart}
 use Rattle.rt_strips.proofs.Placed.{strip_there, strip_below}
 use Rattle.rt_vtemplate.specs.Kinds.{AreNearStrips}
 use Rattle.rt_vtemplate.specs.Steps.{columns_of, AreColumnsOf, ListsNearStrips}
+
+-- near pairs in another order are the near pairs
+pub pairs_ordered : (sides : List Sides) (reaches : List ℤ) (pairs ordered : List (ℕ × ℕ)) → IsPermutation pairs ordered → ListsNearPairs sides reaches pairs
+    → ListsNearPairs sides reaches ordered
+pairs_ordered sides reaches pairs ordered moved lists = record {
+  exact = λ i j. (
+    λ c. (lists.exact i j).0 (Contains-permutation ordered pairs (i, j) (IsPermutation-sym pairs ordered moved) c),
+    λ near. Contains-permutation pairs ordered (i, j) moved ((lists.exact i j).1 near),
+  );
+}
 
 -- two intervals are of one group and near by its reach
 record AreNearBy (spaces : List ℤ) (a b : Sides) : Type 0 where

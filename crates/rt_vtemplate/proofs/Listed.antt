@@ -4,6 +4,7 @@ use Rattle.std.specs.Option.{MatchOption}
 use Rattle.std.proofs.lemmas.List.{get_or-map, length-map}
 use Rattle.std.proofs.lemmas.List.Elements.{All-map, All-weaker}
 use Rattle.rt_cells.proofs.Lists.{mapped}
+use Rattle.std.proofs.lemmas.Option.{same_Some}
 use Rattle.rt_rows.specs.declared.name.Name.{Name}
 use Rattle.rt_rows.specs.declared.name.Name.TheVariants.{Zero}
 use Rattle.rt_rows.specs.declared.row.Var.{Var}
@@ -30,14 +31,11 @@ its_row job columns name row (RowUpwards.run i j c) = refl
 pub not_none : {X : Type 0} (x : X) → None ≡ Some x → ⊥
 not_none x e = cc
 
-pub same_some : {X : Type 0} (x y : X) → Some x ≡ Some y → x ≡ y
-same_some x y e = cc
-
 -- so the name's row is the template's, where it has one
 pub row_told : (job : Job) (name : Name) (found : Option Row) → found ≡ row_of job name → MatchOption found (HasNoRow job name) (IsRowOf job name)
 row_told job name None e = record { none = λ columns h. not_none h.0 (e ∙ its_row job columns name h.0 h.1) }
 row_told job name (Some row) e = record {
-  is_row = λ columns h. subst (RowUpwards job columns name) (sym (same_some row h.0 (e ∙ its_row job columns name h.0 h.1))) h.1;
+  is_row = λ columns h. subst (RowUpwards job columns name) (sym (same_Some row h.0 (e ∙ its_row job columns name h.0 h.1))) h.1;
 }
 
 -- each name that the template has is of one of its kinds

@@ -2,6 +2,7 @@
 use Rattle.std.proofs.Common.{◌≡◌, ℕ, ℤ, Bool, true, false, Option, Some, None, sym, subst, ◌∙◌}
 use Rattle.std.specs.Bool.{MatchBool}
 use Rattle.std.specs.Option.{MatchOption}
+use Rattle.std.proofs.lemmas.Option.{same_Some}
 use Rattle.rt_rows.specs.declared.name.Name.{Name}
 use Rattle.rt_rows.specs.declared.name.Name.TheVariants.{Lo, Hi, Zero, Top, Tall, On, Under, Gap, Run}
 use Rattle.rt_rows.specs.declared.row.Var.{Var}
@@ -12,7 +13,7 @@ use Rattle.rt_nets.specs.Job.{strips_of}
 use Rattle.rt_template.specs.Vertical.{RowUpwards, HasUpwards, IsKeptAbove, IsWholeChain}
 use Rattle.rt_vtemplate.specs.Listing.{row_of}
 use Rattle.rt_vtemplate.specs.Open.{AreBothStrips}
-use Rattle.rt_vtemplate.proofs.Listed.{its_row, not_none, same_some}
+use Rattle.rt_vtemplate.proofs.Listed.{its_row, not_none}
 use Rattle.rt_vtemplate.proofs.Chained.{first_covers, last_covers}
 
 decided : (v : Bool) (P Q : Type 0) → (P → Q) → (Q → P) → MatchBool v P (¬ P) → MatchBool v Q (¬ Q)
@@ -96,7 +97,7 @@ module _ (job : Job) (columns : Var → ℤ) where
   pub row_there : (name : Name) (found : Option Row) → found ≡ row_of job name → HasUpwards job columns name
       → MatchOption found ((row : Row) → RowUpwards job columns name row → ⊥) (RowUpwards job columns name)
   row_there name None e h = absurd (not_none h.0 (e ∙ its_row job columns name h.0 h.1))
-  row_there name (Some row) e h = subst (RowUpwards job columns name) (sym (same_some row h.0 (e ∙ its_row job columns name h.0 h.1))) h.1
+  row_there name (Some row) e h = subst (RowUpwards job columns name) (sym (same_Some row h.0 (e ∙ its_row job columns name h.0 h.1))) h.1
 
   -- a whole chain is one of strips
   pub chain_strips : (i j : ℕ) → IsWholeChain job columns i j → AreBothStrips (strips_of job) i j

@@ -44,7 +44,8 @@ source_added job count a b c d e f g h =
     split name (IsOfSource.strip k) = inl (inr (subst (λ n. IsOfFirst IsOfStrip n name) (sym e) k))
     split name (IsOfSource.standing k) = inr k
 
-no_circle : (b t b' t' : ℤ) → b <ℤ t → t ≤ℤ b' → b' <ℤ t' → t' ≡ b → ⊥
+-- what lies above another doesn't end where that begins
+pub no_circle : (b t b' t' : ℤ) → b <ℤ t → t ≤ℤ b' → b' <ℤ t' → t' ≡ b → ⊥
 no_circle b t b' t' h g k e = omega (arith, ints)
 
 module _ (job : Job) (columns : Var → ℤ) (are : AreStrips (strips_of job)) where

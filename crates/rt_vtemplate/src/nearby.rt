@@ -1,5 +1,5 @@
 //! Strips that are near each other in the columns of a drawing.
-ghost use Rattle.std.specs.Prelude.{◌≡◌, ◌<◌, length, map, IfOk};
+ghost use Rattle.std.specs.Prelude.{◌≡◌, ◌<◌, length, map, IfOk, IsPermutation};
 ghost use Rattle.rt_rows.specs.Places.{places};
 ghost use Rattle.rt_tech.specs.declared.table.Mask.{Mask};
 ghost use Rattle.rt_nets.specs.Job.{IsJob};
@@ -27,7 +27,17 @@ pub(crate) fn near_strips(
     let sides = all_columns(alloc, job, columns)?;
     let reaches = spaces(alloc, &job.target)?;
     let pairs = near_pairs(alloc, sides.as_slice(), reaches.as_slice())?;
-    Ok(pairs)
+    let ordered = in_order(alloc, pairs.as_slice())?;
+    Ok(ordered)
+}
+
+// The same pairs in order of their numbers, so that the names that are made of them stand in order already.
+fn in_order(alloc: Global, pairs: &[(u32, u32)]) -> Result<List<(u32, u32)>, OutOfMemory>
+    ensures { IfOk result (λ ordered. IsPermutation pairs.now ordered) }
+{
+    let mut ordered: Vec<(u32, u32)> = pairs.iter().copied().collect(alloc)?;
+    ordered.sort()?;
+    Ok(List::of(ordered))
 }
 
 // The columns of each strip in the drawing.

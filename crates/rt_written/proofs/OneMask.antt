@@ -1,28 +1,17 @@
 -- The mask of a layer pair: no other mask of the table has the pair.
 use Rattle.std.proofs.Common.{◌≡◌, ℕ, ◌<◌, ◌≤◌, ℤ, Bool, true, false, List, length, get_or, cond, Some, None, AllPairs, sym, ◌∙◌, ap, arith}
-use Rattle.std.specs.Prelude.{int_le, nat_lt}
+use Rattle.std.specs.Prelude.{nat_lt}
 use Rattle.std.specs.List.{position_or_len}
-use Rattle.std.proofs.lemmas.Bool.{and_parts, and_from, false_from_ne_true}
+use Rattle.std.proofs.lemmas.Bool.{and_from, false_from_ne_true}
 use Rattle.std.proofs.lemmas.Option.{slice_get_within, get_or_from_slice_get}
 use Rattle.std.proofs.lemmas.List.Sums.{position_or_len_is}
 use Rattle.std.proofs.lemmas.Int.{ints}
-use Rattle.rt_cells.proofs.Lines.{antisymmetric}
+use Rattle.rt_tech.proofs.Tests.{pair_is}
 use Rattle.rt_tech.specs.declared.table.Mask.{Mask}
 use Rattle.rt_tech.specs.Tech.{pair_of, AreDistinct}
 use Rattle.rt_tech.specs.Words.{same_number, same_pair}
-use Rattle.gds_slabs.proofs.Coverings.{le_says}
 use Rattle.gds_flat.specs.Elements.{mask_of_shapes}
 use Rattle.rt_written.specs.Written.{IsMaskOfPairIn}
-
-number_is : (a b : ℤ) → same_number a b ≡ true → a ≡ b
-number_is a b h = let k = and_parts (int_le a b) (int_le b a) h in antisymmetric a b (le_says a b k.0) (le_says b a k.1)
-
-pair_is : (p q : ℤ × ℤ) → same_pair p q ≡ true → p ≡ q
-pair_is p q h =
-    let k = and_parts (same_number p.0 q.0) (same_number p.1 q.1) h in
-    let first = number_is p.0 q.0 k.0 in
-    let second = number_is p.1 q.1 k.1 in
-    λ i. (first i, second i)
 
 number_itself : (a : ℤ) → same_number a a ≡ true
 number_itself a = grind (arith, ints)

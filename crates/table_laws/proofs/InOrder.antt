@@ -1,5 +1,5 @@
 -- Sizes that are read are in order.
-use Rattle.std.proofs.Common.{◌≡◌, ◌≢◌, ℕ, zero, suc, ◌+◌, ◌≤◌, ℤ, pos, negsuc, ◌≤ℤ◌, Bool, true, false, cond, nat_le, List, [], ◌∷◌, All, AllPairs, length, slice_get, Option, Some, None, is_some, unwrap_or, IsTrue, codes, bytes_eq, nat_abs, refl, sym, ap, ◌∙◌, subst, arith}
+use Rattle.std.proofs.Common.{◌≡◌, ◌≢◌, ℕ, zero, suc, ◌+◌, ◌≤◌, ℤ, pos, negsuc, neg_ℤ, ◌≤ℤ◌, Bool, true, false, cond, nat_le, List, [], ◌∷◌, All, AllPairs, length, slice_get, Option, Some, None, is_some, unwrap_or, IsTrue, codes, bytes_eq, nat_abs, refl, sym, ap, ◌∙◌, subst, arith}
 use Rattle.std.specs.Prelude.{option_map, option_and_then}
 use Rattle.std.specs.List.{list_all}
 use Rattle.std.specs.Option.{option_map_or}
@@ -7,6 +7,7 @@ use Rattle.std.proofs.lemmas.Bool.{and_parts}
 use Rattle.std.proofs.lemmas.Bool.Decides.{nat_tests}
 use Rattle.std.proofs.lemmas.Int.{ints}
 use Rattle.std.proofs.lemmas.Slice.Eq.{bytes_eq-Decides}
+use Rattle.rt_sizes.specs.declared.limits.TheConstants.{AXIS_LIMIT, PIVOT_LIMIT, PIVOTS}
 use Rattle.toml.specs.Data.{Data, Members, Items, no_items, get_member, as_array}
 use Rattle.rt_tech.specs.declared.sizes.Mirror.{Mirror}
 use Rattle.rt_tech.specs.declared.sizes.Mirror.TheVariants.{Find, At}
@@ -38,24 +39,24 @@ mirror_in_order file h =
     let (range, axis) = or_parts _ _ more in
     by_word (bytes_eq (word (codes "mirror") file) (codes "axis")) (bytes_eq (word (codes "mirror") file) (codes "find")) axis
   where
-    by_word : (at find : Bool) → cond at (number_fault (negsuc 1999999999) (pos 2000000000) (codes "axis") file) (unwanted (codes "axis") file) ≡ None
+    by_word : (at find : Bool) → cond at (number_fault (neg_ℤ AXIS_LIMIT) AXIS_LIMIT (codes "axis") file) (unwanted (codes "axis") file) ≡ None
         → IsMirror (cond at (At (number (codes "axis") file)) (cond find Find mirror.None))
-    by_word true find h = number_limits (negsuc 1999999999) (pos 2000000000) (codes "axis") file h
+    by_word true find h = number_limits (neg_ℤ AXIS_LIMIT) AXIS_LIMIT (codes "axis") file h
     by_word false true h = tt
     by_word false false h = tt
 
 -- how many pivots
-magnitude : (z : ℤ) → pos 1 ≤ℤ z → z ≤ℤ pos 100000 → (1 ≤ nat_abs z) × (nat_abs z ≤ 100000)
+magnitude : (z : ℤ) → pos 1 ≤ℤ z → z ≤ℤ pos PIVOT_LIMIT → (1 ≤ nat_abs z) × (nat_abs z ≤ PIVOT_LIMIT)
 magnitude (pos n) low high = (omega (arith, ints), omega (arith, ints))
 magnitude (negsuc n) low high = absurd (omega (arith, ints))
 
-pivots_in_order : (file : Members) → pivots_fault file ≡ None → (1 ≤ pivots_of file) × (pivots_of file ≤ 100000)
+pivots_in_order : (file : Members) → pivots_fault file ≡ None → (1 ≤ pivots_of file) × (pivots_of file ≤ PIVOT_LIMIT)
 unfolding pivots_fault
 pivots_in_order file h = by_presence (has (codes "pivots") file) h
   where
-    by_presence : (there : Bool) → cond there (number_fault (pos 1) (pos 100000) (codes "pivots") file) None ≡ None
-        → (1 ≤ cond there (nat_abs (number (codes "pivots") file)) 20000) × (cond there (nat_abs (number (codes "pivots") file)) 20000 ≤ 100000)
-    by_presence true h = let limits = number_limits (pos 1) (pos 100000) (codes "pivots") file h in magnitude (number (codes "pivots") file) limits.0 limits.1
+    by_presence : (there : Bool) → cond there (number_fault (pos 1) (pos PIVOT_LIMIT) (codes "pivots") file) None ≡ None
+        → (1 ≤ cond there (nat_abs (number (codes "pivots") file)) PIVOTS) × (cond there (nat_abs (number (codes "pivots") file)) PIVOTS ≤ PIVOT_LIMIT)
+    by_presence true h = let limits = number_limits (pos 1) (pos PIVOT_LIMIT) (codes "pivots") file h in magnitude (number (codes "pivots") file) limits.0 limits.1
     by_presence false h = (omega arith, omega arith)
 
 -- the length and the width of an entry

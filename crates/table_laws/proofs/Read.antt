@@ -3,7 +3,7 @@ use Rattle.std.proofs.Common.{◌≡◌, ℕ, ℤ, pos, negsuc, Bool, true, fals
 use Rattle.std.specs.List.{list_any}
 use Rattle.std.proofs.lemmas.Int.{ints}
 use Rattle.toml.specs.Data.{Data, Members, Items, get_item, as_str, as_integer, as_array}
-use Rattle.rt_tech.specs.declared.limits.TheConstants.{GRID_LIMIT}
+use Rattle.rt_tech.specs.declared.limits.TheConstants.{GRID_LIMIT, LEAST_LAYER}
 use Rattle.rt_tech.specs.declared.table.Tech.{Tech}
 use Rattle.rt_tech.specs.declared.table.Which.{Which}
 use Rattle.rt_tech.specs.declared.table.TableCause.TheVariants.{Form, Range}
@@ -45,7 +45,7 @@ ignore_clear doc holds entries valid =
     (inner_clear (codes "ignore") _ (each_clear (λ before. ignored_fault) ignored_of values (λ k value at.
     let is = all_at IsIgnorable ignored_of values valid k value at in
     or_clear (test_here Form (is_some (as_array value))) _ (here_clear Form _ (entries k value at).is_list)
-    (pair_clear (negsuc 32767) (negsuc 0) (as_list value) (entries k value at).pair is.layer.0 is.layer.1 is.number.0 is.number.1))))
+    (pair_clear LEAST_LAYER (negsuc 0) (as_list value) (entries k value at).pair is.layer.0 is.layer.1 is.number.0 is.number.1))))
 
 -- a document of the shape of a table, that says a valid table, has no fault
 pub no_fault : (which : Which) (doc : Members) → HasShape which doc → IsValidTech (tech_in which doc) → tech_fault which doc ≡ None

@@ -3,9 +3,7 @@ use Rattle.std.proofs.Common.{◌≡◌, ◌≢◌, ℕ, zero, suc, ◌≤◌, �
 use Rattle.std.specs.Prelude.{option_and_then}
 use Rattle.std.specs.List.{list_any, list_all}
 use Rattle.std.specs.Option.{option_map_or}
-use Rattle.std.proofs.lemmas.Bool.{and_parts}
 use Rattle.std.proofs.lemmas.Bool.Decides.{nat_tests}
-use Rattle.std.proofs.lemmas.Int.{ints}
 use Rattle.std.proofs.lemmas.List.Sums.{AllPass-from_list_all, list_all-from_AllPass}
 use Rattle.std.proofs.lemmas.Slice.Eq.{bytes_eq-Decides}
 use Rattle.toml.specs.Data.{Data, Members, Items, no_items, item, get_item, as_str, as_integer, as_array, as_table}
@@ -16,8 +14,8 @@ use Rattle.rt_tech.specs.declared.table.Role.TheVariants.{Metal, Gate, Active, C
 use Rattle.rt_tech.specs.declared.table.TableCause.TheVariants.{Missing, Form, Range, Duplicate, Name, Role, Clash}
 use Rattle.rt_tech.specs.Rules.{is_role_at}
 use Rattle.rt_tech.specs.Tech.{IsName, IsNameByte, IsNote, IsValidMask, DoNotClash, may_be_lower_at, HasSides, HasSidesOf, IsKept, AreValidMasks}
-use Rattle.rt_tech.specs.Words.{same_role, same_number, same_pair, has_role, is_single, may_have_text, may_be_lower, is_ignored, are_different}
-use Rattle.rt_tech.proofs.Tests.{role_same}
+use Rattle.rt_tech.specs.Words.{same_role, same_pair, has_role, is_single, may_have_text, may_be_lower, is_ignored, are_different}
+use Rattle.rt_tech.proofs.Tests.{role_same, pair_is}
 use Rattle.rt_keys.specs.declared.stop.Fault.{Fault}
 use Rattle.rt_keys.specs.Document.{has, read_at, word, number, list, as_word, as_members, count, entries_of}
 use Rattle.rt_keys.specs.Faults.{◌or_else◌, test, test_here, within, wanted, unwanted, others, each}
@@ -27,7 +25,6 @@ use Rattle.table_laws.specs.Shapes.{Holds, AllItems, IsTableOf, HoldsName, IsPai
 use Rattle.rt_keys.specs.Words.{role_named}
 use Rattle.table_laws.proofs.Faultless.{both_hold, test_clear, here_clear, or_clear, inner_clear, wanted_clear, unwanted_clear, others_clear, absent_unless, number_clear, length_clear, pair_clear, each_clear, entry_at, all_at, pairs_at, none_before, named_at}
 use Rattle.rt_keys.proofs.Lookups.{count_of_entries}
-use Rattle.rt_tables.proofs.Limits.{within_limits}
 use Rattle.rt_tables.specs.Masks.{mask_keys, is_name, is_name_byte, role_told, role_of, named_fault, numbered, role_at, pair_at, note_at, has_pair, has_note, name_fault, role_fault, layer_fault, datatype_fault, text_there, text_fault, is_cut, width_fault, upper_fault, lower_entry_fault, lower_entry, lowers_at, lowers_fault, lower_fault, sides_fault, measures_fault, mask_table_fault, mask_fault, mask_of}
 use Rattle.table_laws.specs.TableShapes.{IsLowerEntry, HasCutKeys, HasNoCutKeys, HasSidesKeys, IsMaskEntry}
 use Rattle.rt_tables.specs.Tables.{masks_of, masks_listed, come_together}
@@ -80,17 +77,6 @@ role_clear before entry a_word known alone =
     not_both : (a b : Bool) → (a ≡ true → b ≡ false) → not (a && b) ≡ true
     not_both true b h = not_holds b (h refl)
     not_both false b h = refl
-
--- layer pairs
-pub pair_is : (p q : ℤ × ℤ) → same_pair p q ≡ true → p ≡ q
-pair_is p q h =
-    let (one, other) = and_parts (same_number p.0 q.0) (same_number p.1 q.1) h in
-    let first = number_is p.0 q.0 one in
-    let second = number_is p.1 q.1 other in
-    λ i. (first i, second i)
-  where
-    number_is : (a b : ℤ) → same_number a b ≡ true → a ≡ b
-    number_is a b e = let limits = within_limits a a b e in let low = limits.0 in let high = limits.1 in omega (arith, ints)
 
 datatype_clear : (ignored : List (ℤ × ℤ)) (before : List Mask) (entry : Members) → number_fault (pos 0) LAYER_LIMIT (codes "datatype") entry ≡ None
     → has_pair before (pair_at entry) ≡ false → is_ignored ignored (pair_at entry) ≡ false → datatype_fault ignored before entry ≡ None

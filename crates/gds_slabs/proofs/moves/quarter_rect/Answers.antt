@@ -1,6 +1,6 @@
 use Rattle.std.proofs.Common.{arith}
 use Rattle.std.proofs.lemmas.Int.{ints}
-use Rattle.gds_slabs.proofs.Coverings.{same_sides}
+use Rattle.rt_cells.proofs.Rectangles.{same_sides}
 use Rattle.gds_slabs.proofs.moves.quarter_rect.Goals as goal
 
 pub returns : goal.returns

@@ -1,5 +1,6 @@
 use Rattle.std.proofs.Common.{arith}
-use Rattle.rt_columns.proofs.Kept.{none_passing, one_more_passing, all_passing, read_at}
+use Rattle.rt_sweep.proofs.Tops.{read_at}
+use Rattle.rt_columns.proofs.Kept.{none_passing, one_more_passing, all_passing}
 use Rattle.rt_columns.proofs.slab.pass.Goals as goal
 
 pub loop-bar-init : goal.loop-bar-init

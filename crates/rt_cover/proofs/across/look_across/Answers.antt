@@ -1,7 +1,7 @@
 use Rattle.std.proofs.Common.{◌≤ℤ◌, arith, get_or, subst, sym}
+use Rattle.rt_sweep.proofs.Tops.{read_at}
 use Rattle.rt_sweep.specs.declared.bar.Bar.{Bar}
 use Rattle.rt_cover.specs.Across.{IsReachUpTo}
-use Rattle.rt_cover.proofs.Reading.{read_at}
 use Rattle.rt_cover.proofs.Reaching.{reach_onward, no_reach}
 use Rattle.rt_cover.proofs.Looking.{looked_none, looked_more}
 use Rattle.rt_cover.proofs.across.look_across.Goals as goal

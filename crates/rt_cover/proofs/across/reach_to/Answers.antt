@@ -1,7 +1,7 @@
 use Rattle.std.proofs.Common.{◌≤ℤ◌, arith, get_or, subst}
 use Rattle.std.proofs.lemmas.Int.{ints}
+use Rattle.rt_sweep.proofs.Tops.{read_at}
 use Rattle.rt_sweep.specs.declared.bar.Bar.{Bar}
-use Rattle.rt_cover.proofs.Reading.{read_at}
 use Rattle.rt_cover.proofs.Reaching.{taken}
 use Rattle.rt_cover.proofs.across.reach_to.Goals as goal
 

@@ -2,6 +2,7 @@ use Rattle.std.proofs.Common.{◌≡◌, List, [], ◌∷◌, ◌++◌, length, 
 use Rattle.std.specs.Prelude.{Contains}
 use Rattle.std.proofs.lemmas.List.{length-map}
 use Rattle.std.proofs.lemmas.List.Elements.{Contains-append_right}
+use Rattle.rt_strips.proofs.Family.{are_strips}
 use Rattle.rt_rows.specs.declared.name.Name.{Name}
 use Rattle.rt_rows.specs.declared.name.Name.TheVariants.{Zero, Top}
 use Rattle.rt_strips.specs.declared.listing.Strip.{Strip}
@@ -10,12 +11,11 @@ use Rattle.rt_strips.specs.StripsOf.{AreStrips}
 use Rattle.rt_nets.specs.Job.{strips_of}
 use Rattle.rt_htemplate.specs.Candidates.{names_of_strip, AreOfferedAtSeams}
 use Rattle.rt_htemplate.proofs.Offers.{all_offered, hold_all}
-use Rattle.rt_htemplate.proofs.Pairs.{as_strips}
 use Rattle.rt_htemplate.proofs.candidates.candidates.Goals as goal
 
 pub add_of_seams-requires-clause-strips : goal.add_of_seams-requires-clause-strips
 add_of_seams-requires-clause-strips c =
-    subst (λ (list : List Strip). AreStrips (map placed list)) (sym c.as_slice-list.ensures) (as_strips _ _ _ c.requires.job.job_of.view.strips.strips_are)
+    subst (λ (list : List Strip). AreStrips (map placed list)) (sym c.as_slice-list.ensures) (are_strips _ _ _ c.requires.job.job_of.view.strips.strips_are)
 
 first_there : (names more first : List Name) (name : Name) → first ≡ names ++ more → Contains more name → Contains first name
 first_there names more first name e c = subst (λ (l : List Name). Contains l name) (sym e) (Contains-append_right names more name c)

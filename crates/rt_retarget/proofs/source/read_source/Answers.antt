@@ -1,5 +1,5 @@
 use Rattle.std.proofs.lemmas.Result.{err_from_is_err_and}
-use Rattle.rt_retarget.proofs.Assembled.{stream_is_drawable}
+use Rattle.gds_flat_laws.proofs.Drawable.{stream_is_drawable}
 use Rattle.rt_retarget.proofs.source.read_source.Goals as goal
 
 pub cell_view-requires-clause-drawable : goal.cell_view-requires-clause-drawable

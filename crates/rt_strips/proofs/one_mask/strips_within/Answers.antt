@@ -1,28 +1,21 @@
-use Rattle.std.proofs.Common.{◌≡◌, ◌∙◌, ◌++◌, List, subst, ap, map}
+use Rattle.std.proofs.Common.{List, map, subst, sym}
+use Rattle.std.proofs.lemmas.Result.{IfOk-weaker}
 use Rattle.rt_base.specs.Plane.{area}
+use Rattle.rt_base.specs.declared.plane.Rect.{Rect}
 use Rattle.rt_cells.specs.Rectangles.{Covers}
-use Rattle.rt_sweep.specs.declared.bar.Bar.{Bar}
-use Rattle.rt_strips.specs.OneMask.{AreFirstStrips}
-use Rattle.rt_strips.specs.Goings.{opened}
-use Rattle.rt_strips.specs.Heights.{IsBarCell, tagged_bar, pile_of}
-use Rattle.rt_strips.proofs.Built.{built_from, first_strips_of_same}
-use Rattle.rt_strips.proofs.Crossed.{start_above, cells_of_sweep}
+use Rattle.rt_strips.specs.declared.one_mask.Found.{Found}
+use Rattle.rt_strips.specs.OneMask.{AreFirstStrips, CoverTheSame}
+use Rattle.rt_strips.proofs.Built.{first_strips_of_same}
 use Rattle.rt_strips.proofs.one_mask.strips_within.Goals as goal
-
-pub stack_up-requires : goal.stack_up-requires
-stack_up-requires c =
-    let sweep = c.in_ok-sweep.sweep in
-    built_from (IsBarCell sweep.bars 0) c.empty_stack-stack.result.most sweep.height (pile_of c.empty_stack-stack.result)
-    (ap (map area) c.empty_stack-stack.ensures.strips) c.empty_stack-stack.ensures.count (ap (map opened) c.empty_stack-stack.ensures.going)
-    (start_above c.add_bars.new.bars.items sweep c.in_ok-sweep.ensures 0)
 
 pub returns : goal.returns
 returns c =
-    let sweep = c.in_ok-sweep.sweep in
-    let given : c.add_bars.new.bars.items ≡ map (tagged_bar 0) c.args.rects.now =
-    c.in_ok-add_bars.ensures ∙ ap (λ (bars : List Bar). bars ++ map (tagged_bar 0) c.args.rects.now) c.new-bars.ensures.items in
-    let kept = map area c.stack_up.new.stack.found.strips.items in
-    let count = c.stack_up.new.stack.found.count in
-    subst (λ most. AreFirstStrips (Covers (map area c.args.rects.now)) most kept count) c.empty_stack-stack.ensures.most
-    (first_strips_of_same (IsBarCell sweep.bars 0) (Covers (map area c.args.rects.now)) (cells_of_sweep c.args.rects.now c.add_bars.new.bars.items sweep given c.in_ok-sweep.ensures)
-    c.empty_stack-stack.result.most kept count c.in_ok-stack_up.ensures)
+    let rects = c.args.rects.now in
+    let merged = c.as_slice.result.now in
+    let same : CoverTheSame (map area merged) (map area rects) =
+    subst (λ (rs : List Rect). CoverTheSame (map area rs) (map area rects)) (sym c.as_slice.ensures.value) c.in_ok-merged.ensures in
+    IfOk-weaker c.swept-2.result
+    (λ (found : Found). AreFirstStrips (Covers (map area merged)) c.args.most (map area found.strips.items) found.count)
+    (λ (found : Found). AreFirstStrips (Covers (map area rects)) c.args.most (map area found.strips.items) found.count)
+    (λ found. first_strips_of_same (Covers (map area merged)) (Covers (map area rects)) same c.args.most (map area found.strips.items) found.count)
+    c.swept-2.ensures

@@ -1,7 +1,8 @@
 use Rattle.std.proofs.Common.{rules, FitsSigned, ◌+ℤ◌, ◌*ℤ◌}
+use Rattle.rt_cells.proofs.Times.{positive_times}
 use mir.Syntax.{w128}
 use Rattle.rt_frac.specs.Fracs.{SumFits}
-use Rattle.rt_frac.proofs.Stored.{product_is, sum_is, no_sum, positive_product, made}
+use Rattle.rt_frac.proofs.Stored.{product_is, sum_is, no_sum, made}
 use Rattle.rt_frac.proofs.frac.Frac.add.Goals as goal
 
 pub returns-in_default : goal.returns-in_default
@@ -31,4 +32,4 @@ returns c =
     let sum = sum_is c.in_ok-first.first c.in_ok-second.second x y c.in-Some.sum first.0 second.0 first.1 second.1 c.in-Some.ensures in
     let below = product_is a.den b.den c.in-Some-checked_mul.below ad bd c.in-Some-checked_mul.ensures in
     made c.in-Some.sum c.in-Some-checked_mul.below (x +ℤ y) (a.den *ℤ b.den) c.new.result (¬ SumFits a b) sum.0 below.0 sum.1 below.1
-    (positive_product a.den b.den c.requires.first.positive c.requires.second.positive) c.new.ensures
+    (positive_times a.den b.den c.requires.first.positive c.requires.second.positive) c.new.ensures

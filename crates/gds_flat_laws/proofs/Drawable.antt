@@ -31,5 +31,5 @@ drawable (Label offset layer texttype at text) h = tt
 drawable (BoxShape offset layer boxtype) h = tt
 
 -- the elements of a stream's structures can be drawn
-pub stream_can_be_drawn : (bytes : List ℕ) (library : Library) → Stream bytes library → AreDrawable library.structures
-stream_can_be_drawn bytes library stream i s h j e k = drawable _ (((stream_is_lawful bytes library stream).structures i s h).elements j e k)
+pub stream_is_drawable : (bytes : List ℕ) (library : Library) → Stream bytes library → AreDrawable library.structures
+stream_is_drawable bytes library stream i s h j e k = drawable _ (((stream_is_lawful bytes library stream).structures i s h).elements j e k)
