@@ -9,7 +9,7 @@ use Rattle.rt_simplex.specs.Choices.{ComesFirst, IsFirstColumn}
 use Rattle.rt_simplex.specs.Among.{IsFirstOrNone}
 
 -- a sign goes out of the second factor
-sign_out_second : (a b : ℤ) → a *ℤ neg_ℤ b ≡ neg_ℤ (a *ℤ b)
+pub sign_out_second : (a b : ℤ) → a *ℤ neg_ℤ b ≡ neg_ℤ (a *ℤ b)
 sign_out_second a b = times_comm a (neg_ℤ b) ∙ sign_out b a ∙ ap neg_ℤ (times_comm b a)
 
 -- c over u is less than d over v, and that is at most e over w

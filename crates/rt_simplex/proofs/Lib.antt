@@ -4,3 +4,12 @@ pub mod Entering
 pub mod Rays
 pub mod Turns
 pub mod Stored
+pub mod GoalLines
+pub mod Kept
+pub mod Leasts
+pub mod Multipliers
+pub mod BasisPoints
+pub mod TakenRows
+pub mod Shown
+pub mod Gathered
+pub mod Starts

@@ -2,3 +2,8 @@ pub mod Choices
 pub mod Runs
 pub mod Among
 pub mod Laws
+pub mod Feasible
+pub mod Points
+pub mod Combinations
+pub mod Bounds
+pub mod Shares

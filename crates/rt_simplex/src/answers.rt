@@ -1,6 +1,7 @@
 //! What a run answers.
 use rt_base::List;
-use rt_rows::Proof;
+use rt_frac::Frac;
+use rt_rows::{Proof, Share};
 
 /// Where a run ends. (This project's own.)
 #[derive(Clone, Copy, Drop)]
@@ -49,4 +50,25 @@ pub enum SearchError {
     },
     /// There was no memory.
     OutOfMemory,
+}
+
+/// What a run shows of the goal. Shares tell rows by their numbers in the table. (This project's own.)
+#[derive(Drop)]
+pub enum Bound {
+    /// The least value of the goal among all points that meet the rows.
+    Optimum {
+        /// What the columns of the variables are worth at the point of the basis, in order.
+        at: List<Frac>,
+        /// A combination of rows: it has `over` times the goal at most and nothing else above 0. Its least value over `over` is the goal's value.
+        shares: List<Share>,
+        /// What the combination is divided by.
+        over: i128,
+    },
+    /// No point meets the rows.
+    Ray {
+        /// A combination of rows: it has nothing above 0, and its least value is above 0.
+        shares: List<Share>,
+        /// What the combination is divided by.
+        over: i128,
+    },
 }

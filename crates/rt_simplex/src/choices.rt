@@ -43,7 +43,7 @@ fn next_row(table: &Tableau) -> Option<u32>
 }
 
 // What a column costs by the row in which the goal is basic.
-fn cost(table: &Tableau, goal: u32, row: &Option<u32>, j: u32) -> i64
+pub(crate) fn cost(table: &Tableau, goal: u32, row: &Option<u32>, j: u32) -> i64
     requires goal { goal ≡ goal_of table.now }
     requires row { IsGoalAt table.now row.now }
     requires there { j < columns_of table.now.system }

@@ -2,10 +2,16 @@
 #![tactic(auto)]
 
 mod answers;
+mod bounding;
 mod choices;
+mod combination;
 mod laws;
 mod run;
+mod values;
 
-pub use answers::{End, SearchError};
-pub use laws::ray_has_no_point;
+pub use answers::{Bound, End, SearchError};
+pub use bounding::bound;
+pub use laws::{
+    ends_exclude, optimum_is_least, pivots_keep_feasible, ray_has_no_point, start_is_feasible,
+};
 pub use run::run_dual;
