@@ -17,10 +17,10 @@ last_of : (member : ℕ → Type 0) (box : ℕ → Rectangle) (first : ℕ) (cha
 last_of member box i _ _ (one _ m) = Contains-head i []
 last_of member box i _ last (more _ j _ rest stands c) = Contains-rest i rest last (last_of member box j rest last c)
 
-nearest_inside : (low high near u : ℤ) → low <ℤ high → Within (low -ℤ near) (high +ℤ near) u → Within low high (nearest_place low high u)
+pub nearest_inside : (low high near u : ℤ) → low <ℤ high → Within (low -ℤ near) (high +ℤ near) u → Within low high (nearest_place low high u)
 nearest_inside low high near u l h = record { from = omega (arith, ints, clamps); to = omega (arith, ints, clamps) }
 
-nearest_near : (low high near u : ℤ) → pos 0 ≤ℤ near → low <ℤ high → Within (low -ℤ near) (high +ℤ near) u
+pub nearest_near : (low high near u : ℤ) → pos 0 ≤ℤ near → low <ℤ high → Within (low -ℤ near) (high +ℤ near) u
     → ((nearest_place low high u -ℤ near) ≤ℤ u) × (u ≤ℤ (nearest_place low high u +ℤ near))
 nearest_near low high near u p l h = (omega (arith, ints, clamps), omega (arith, ints, clamps))
 
@@ -29,7 +29,7 @@ pub grown_full : (near : ℤ) (r : Rectangle) → pos 0 ≤ℤ near → IsNonemp
 grown_full near r p h = record { across = omega (arith, ints); upwards = omega (arith, ints) }
 
 -- a cell within the number of one of a rectangle lies in the grown rectangle
-near_grown : (number : ℤ) (r : Rectangle) (x y u v : ℤ) → Holds r x y → IsWithin number x y u v → Holds (grown number r) u v
+pub near_grown : (number : ℤ) (r : Rectangle) (x y u v : ℤ) → Holds r x y → IsWithin number x y u v → Holds (grown number r) u v
 near_grown number r x y u v h near = record {
   column = record { from = omega (arith, ints, h.column, near.columns.from); to = omega (arith, ints, h.column, near.columns.to) };
   row = record { from = omega (arith, ints, h.row, near.rows.from); to = omega (arith, ints, h.row, near.rows.to) };

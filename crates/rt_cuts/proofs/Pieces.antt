@@ -4,7 +4,7 @@ use Rattle.std.specs.Int.{int_max}
 use Rattle.rt_cells.specs.Rectangles.{Rectangle, Holds}
 use Rattle.rt_cells.proofs.Lines.{first_place, last_place, one_before}
 use Rattle.rt_rules.specs.Cuts.{IsSquare, KeepsSize}
-use Rattle.rt_rules.specs.Pieces.{IsPiece, HasRectangles}
+use Rattle.rt_rules.specs.Pieces.{IsPiece, IsPieceAt, HasRectangles}
 use Rattle.rt_rules.proofs.Pieces.{piece_row}
 use Rattle.rt_family.specs.Strips.{HoldsCell, CoveredBy, IsFamily, StandsOn}
 use Rattle.rt_family.specs.Carried.{IsCarried}
@@ -12,10 +12,10 @@ use Rattle.rt_family.proofs.Strips.{held_covered, common_place, holder_of_run, n
 use Rattle.rt_family.proofs.Drawn.{drawn_family, source_stands}
 use Rattle.rt_cuts.specs.Cuts.{AreUnstacked}
 
--- no strip of a cut stands on another: both would have the columns of their piece
-pub none_stands : (member : ℕ → Type 0) (source : ℕ → Rectangle) → IsFamily member source → HasRectangles (CoveredBy member source) → AreUnstacked member source
-    → (i j : ℕ) → StandsOn member source i j → ⊥
-none_stands member source family shaped unstacked i j stands =
+-- strips of which one stands on the other aren't in a piece that is a rectangle: both would have its columns
+pub stands_bent : (member : ℕ → Type 0) (source : ℕ → Rectangle) → IsFamily member source → AreUnstacked member source → (i j : ℕ) → StandsOn member source i j
+    → (r : Rectangle) → IsPieceAt (CoveredBy member source) (int_max (source i).left (source j).left) (source j).bottom r → ⊥
+stands_bent member source family unstacked i j stands r at =
     let cells = CoveredBy member source in
     let low = family.nonempty i stands.lower in
     let high = family.nonempty j stands.upper in
@@ -23,12 +23,28 @@ none_stands member source family shaped unstacked i j stands =
     let column = common_place (source i) (source j) low high stands.over in
     let p : HoldsCell member source i z ((source i).top -ℤ pos 1) = record { strip = stands.lower; cell = record { column = column.0; row = last_place _ _ low.upwards } } in
     let q : HoldsCell member source j z (source j).bottom = record { strip = stands.upper; cell = record { column = column.1; row = first_place _ _ high.upwards } } in
-    let (r, at) = shaped z (source j).bottom (held_covered member source family j _ _ q) in
     let below : Holds r z ((source i).top -ℤ pos 1) =
     at.piece.alone z (source j).bottom z ((source i).top -ℤ pos 1) at.holds (inr (refl, inr (sym stands.adjoin ∙ one_before (source i).top))) (held_covered member source family i _ _ p) in
     let upper = holder_of_run member source family j z (source j).bottom r.left r.right (piece_row cells r at.piece (source j).bottom at.holds.row) at.holds.column q in
     let lower = holder_of_run member source family i z ((source i).top -ℤ pos 1) r.left r.right (piece_row cells r at.piece ((source i).top -ℤ pos 1) below.row) below.column p in
     unstacked i j stands (lower.0 ∙ sym upper.0) (lower.1 ∙ sym upper.1)
+
+-- the cell of the upper one of two such strips, in the first column that they have in common
+pub standing_cell : (member : ℕ → Type 0) (source : ℕ → Rectangle) → IsFamily member source → (i j : ℕ) → StandsOn member source i j
+    → HoldsCell member source j (int_max (source i).left (source j).left) (source j).bottom
+standing_cell member source family i j stands =
+    let high = family.nonempty j stands.upper in
+    record {
+      strip = stands.upper;
+      cell = record { column = (common_place (source i) (source j) (family.nonempty i stands.lower) high stands.over).1; row = first_place _ _ high.upwards };
+    }
+
+-- no strip of a cut stands on another
+pub none_stands : (member : ℕ → Type 0) (source : ℕ → Rectangle) → IsFamily member source → HasRectangles (CoveredBy member source) → AreUnstacked member source
+    → (i j : ℕ) → StandsOn member source i j → ⊥
+none_stands member source family shaped unstacked i j stands =
+    let (r, at) = shaped _ _ (held_covered member source family j _ _ (standing_cell member source family i j stands)) in
+    stands_bent member source family unstacked i j stands r at
 
 -- a strip of a family in which none stands on another is a piece
 pub strip_is_piece : (member : ℕ → Type 0) (box : ℕ → Rectangle) → IsFamily member box → ((i j : ℕ) → StandsOn member box i j → ⊥)

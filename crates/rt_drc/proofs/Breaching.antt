@@ -7,67 +7,14 @@ use Rattle.rt_cells.specs.Cells.Joined.{here, onward}
 use Rattle.rt_rules.specs.Space.{KeepsGapsAlongRows, KeepsPiecesApart, KeepsSpace, IsNarrowGap, AreNearPieces, IsCornerContact, SpaceBreach}
 use Rattle.rt_base.specs.declared.memory.OutOfMemory.{OutOfMemory}
 use Rattle.rt_strips.specs.Placed.{placed}
-use Rattle.rt_rules.proofs.Alike.{AreAlike, space_alike}
+use Rattle.rt_rules.proofs.Alike.{AreAlike, alike_back, gap_alike, turned_alike, space_alike, space_breach_alike}
 use Rattle.rt_drc.specs.declared.rows.Rows.{Rows}
 use Rattle.rt_drc.specs.declared.rows.Witness.{Witness}
 use Rattle.rt_drc.specs.Rows.{AreRowsOf, cells_of, turned_cells_of, ShowsSpace}
-use Rattle.rt_drc.specs.Members.{held_by}
+use Rattle.rt_pieces.specs.Members.{held_by}
 use Rattle.rt_drc.specs.Cornering.{HasNoCornerContact, ShowsNearPieces}
 use Rattle.rt_drc.specs.Spacing.{AreFamilies}
-use Rattle.rt_drc.proofs.Families.{held_alike, strips_family}
-
-module _ (P Q : ℤ → ℤ → Type 0) (alike : AreAlike P Q) where
-  gap_alike : (y a b : ℤ) → IsGap (row_of P y) a b → IsGap (row_of Q y) a b
-  gap_alike y a b gap = record {
-    nonempty = gap.nonempty;
-    empty = λ x h q. gap.empty x h (alike.from x y q);
-    before = alike.to _ y gap.before;
-    after = alike.to b y gap.after;
-  }
-
-  joined_alike : (x y u v : ℤ) → Joined Q x y u v → Joined P x y u v
-  joined_alike x y u v (here c) = here (alike.from x y c)
-  joined_alike x y u v (onward p q _ _ walk next c) = onward p q u v (joined_alike x y p q walk) next (alike.from u v c)
-
-  -- a narrow gap of the one is one of the other
-  narrow_alike : (s x y u v found : ℤ) → IsNarrowGap s P x y u v found → IsNarrowGap s Q x y u v found
-  narrow_alike s x y u v found h = record { one_row = h.one_row; gap = gap_alike y _ u h.gap; cells_found = h.cells_found; short = h.short }
-
-  near_alike : (s x y u v found : ℤ) → AreNearPieces s P x y u v found → AreNearPieces s Q x y u v found
-  near_alike s x y u v found h = record {
-    first = alike.to x y h.first;
-    second = alike.to u v h.second;
-    different = λ walk. h.different (joined_alike x y u v walk);
-    gap_found = h.gap_found;
-    short = h.short;
-  }
-
-  corner_alike : (s x y u v found : ℤ) → IsCornerContact s P x y u v found → IsCornerContact s Q x y u v found
-  corner_alike s x y u v found h = record {
-    contact = record {
-      first = alike.to x y h.contact.first;
-      second = alike.to u v h.contact.second;
-      columns = h.contact.columns;
-      rows = h.contact.rows;
-      beside_first = λ q. h.contact.beside_first (alike.from u y q);
-      beside_second = λ q. h.contact.beside_second (alike.from x v q);
-    };
-    none_found = h.none_found;
-    short = h.short;
-  }
-
-back_alike : (P Q : ℤ → ℤ → Type 0) → AreAlike P Q → AreAlike Q P
-back_alike P Q alike = record { to = alike.from; from = alike.to }
-
-turned_alike : (P Q : ℤ → ℤ → Type 0) → AreAlike P Q → AreAlike (transposed P) (transposed Q)
-turned_alike P Q alike = record { to = λ x y. alike.to y x; from = λ x y. alike.from y x }
-
--- a breach of the space rule of the one is a breach of that of the other
-breach_alike : (P Q : ℤ → ℤ → Type 0) → AreAlike P Q → (s x y u v found : ℤ) → SpaceBreach s P x y u v found → SpaceBreach s Q x y u v found
-breach_alike P Q alike s x y u v found (inl (inl h)) = inl (inl (narrow_alike P Q alike s x y u v found h))
-breach_alike P Q alike s x y u v found (inl (inr h)) = inl (inr (narrow_alike (transposed P) (transposed Q) (turned_alike P Q alike) s y x v u found h))
-breach_alike P Q alike s x y u v found (inr (inl h)) = inr (inl (near_alike P Q alike s x y u v found h))
-breach_alike P Q alike s x y u v found (inr (inr h)) = inr (inr (corner_alike P Q alike s x y u v found h))
+use Rattle.rt_pieces.proofs.Families.{held_alike, strips_family}
 
 module _ (m : ℕ) (rows columns : Rows) (are : AreFamilies m rows columns) where
   columns_alike : AreAlike (held_by m columns.strips.now) (transposed (held_by m rows.strips.now))
@@ -78,7 +25,7 @@ module _ (m : ℕ) (rows columns : Rows) (are : AreFamilies m rows columns) wher
       → HasNoCornerContact (held_by m rows.strips.now) → KeepsPiecesApart s (held_by m rows.strips.now) → KeepsSpace s (held_by m rows.strips.now)
   all_keep s gaps column_gaps corners pieces = record {
     rows = gaps;
-    columns = λ y low high gap. column_gaps y low high (gap_alike _ _ (back_alike _ _ columns_alike) y low high gap);
+    columns = λ y low high gap. column_gaps y low high (gap_alike _ _ columns_alike y low high gap);
     pieces = pieces;
     corners = corners;
   }
@@ -123,7 +70,7 @@ found_alike : (P Q : ℤ → ℤ → Type 0) → AreAlike P Q → (s t : ℤ) �
     → MatchOption found (KeepsSpace s Q) (ShowsSpace s Q)
 found_alike P Q alike s t e None keeps = space_alike P Q alike s (subst (λ z. KeepsSpace z P) e keeps)
 found_alike P Q alike s t e (Some witness) shows =
-    breach_alike P Q alike s witness.p.x witness.p.y witness.q.x witness.q.y witness.found (subst (λ z. ShowsSpace z P witness) e shows)
+    space_breach_alike P Q alike s witness.p.x witness.p.y witness.q.x witness.q.y witness.found (subst (λ z. ShowsSpace z P witness) e shows)
 
 -- what is decided of the strips of a mask is decided of its cells
 pub strips_decide : (m : ℕ) (rows : Rows) (s t : ℤ) → t ≡ s → (result : Result (Option Witness) OutOfMemory)

@@ -16,9 +16,9 @@ use Rattle.rt_strips.proofs.Placed.{strip_below}
 use Rattle.rt_family.specs.Strips.{HoldsCell, CoveredBy, IsFamily}
 use Rattle.rt_family.proofs.Strips.{row_is_run}
 use Rattle.rt_drc.specs.declared.rows.Witness.{Witness}
-use Rattle.rt_drc.specs.Members.{IsOf, box_of, AreOfFamily, held_by}
+use Rattle.rt_pieces.specs.Members.{IsOf, box_of, AreOfFamily, held_by}
 use Rattle.rt_drc.specs.Cornering.{IsShownAt, IsCornerOf, MeetAtNoCorner, HasNoCorner, HasNoCornerContact, ShowsCorner}
-use Rattle.rt_drc.proofs.Reading.{box_at, seam_at}
+use Rattle.rt_pieces.proofs.Reading.{box_at, seam_at}
 
 -- what holds of the cells and the number that a witness has holds of the witness
 pub shown : (B : ℤ → ℤ → ℤ → ℤ → ℤ → Type 0) (x y u v number : ℤ) (witness : Witness) → IsShownAt x y u v number witness → B x y u v number

@@ -14,12 +14,12 @@ use Rattle.rt_family.specs.Strips.{ShareRow, HoldsCell, CoveredBy, IsFamily}
 use Rattle.rt_family.proofs.Strips.{common_row}
 use Rattle.rt_drc.specs.declared.rows.Witness.{Witness}
 use Rattle.rt_drc.specs.declared.reach.Reach.{Reach}
-use Rattle.rt_drc.specs.Members.{IsOf, box_of}
+use Rattle.rt_pieces.specs.Members.{IsOf, box_of}
 use Rattle.rt_drc.specs.Cornering.{IsShownAt}
 use Rattle.rt_drc.specs.Following.{BeginsAfter, ComesSooner, ComesNoSooner, IsAfter, IsNextBefore, Follows, AreNeighbours, ShowsGap}
 use Rattle.rt_drc.specs.Nearness.{AreNear, NearAreGrouped, AreNearStrangers}
-use Rattle.rt_drc.specs.Numbering.{AreOwnNumbers}
-use Rattle.rt_drc.proofs.Reading.{last_or_before}
+use Rattle.rt_pieces.specs.Numbering.{AreOwnNumbers}
+use Rattle.rt_cells.proofs.Numbers.{last_or_before}
 use Rattle.rt_drc.proofs.Cornered.{shown}
 
 below_trans : (a b c : ℤ) → a <ℤ b → b ≤ℤ c → a ≤ℤ c
@@ -164,7 +164,7 @@ follows_second m s strips family i j (inr follows) l = follows
 
 -- two strips with a common row that are near are neighbours
 pub near_neighbours : (m : ℕ) (reach : Reach) (strips : List Placed) (own : List ℕ) → IsFamily (IsOf m strips) (box_of strips) → reach.upwards ≡ pos 0 → (i j : ℕ)
-    → AreNearStrangers m reach strips own i j → AreNeighbours m reach.across strips i j
+    → AreNearStrangers (IsOf m strips) reach strips own i j → AreNeighbours m reach.across strips i j
 near_neighbours m reach strips own family level i j near =
     let rows : ShareRow (box_of strips i) (box_of strips j) = record { first = omega (arith, ints, level, near.near.below); second = omega (arith, ints, level, near.near.above) } in
     elim (family.parted i j near.first near.second rows) [
@@ -174,7 +174,7 @@ near_neighbours m reach strips own family level i j near =
     ]
 
 module _ (m : ℕ) (reach : Reach) (strips : List Placed) (own : List ℕ) (family : IsFamily (IsOf m strips) (box_of strips)) (positive : pos 1 ≤ℤ reach.across)
-    (level : reach.upwards ≡ pos 0) (numbers : AreOwnNumbers (length strips) own) (grouped : NearAreGrouped m reach strips own) where
+    (level : reach.upwards ≡ pos 0) (numbers : AreOwnNumbers (length strips) own) (grouped : NearAreGrouped (IsOf m strips) reach strips own) where
   too_near : (i j : ℕ) (y low high : ℤ) → HoldsCell (IsOf m strips) (box_of strips) i (low -ℤ pos 1) y → HoldsCell (IsOf m strips) (box_of strips) j high y
       → low <ℤ high → (high -ℤ low) <ℤ reach.across → i ≡ j
   too_near i j y low high h k l short =

@@ -17,13 +17,13 @@ use Rattle.rt_family.proofs.Strips.{connected_joined, joined_connected}
 use Rattle.rt_drc.specs.declared.clash.Clash.{Clash}
 use Rattle.rt_drc.specs.declared.reach.Reach.{Reach}
 use Rattle.rt_drc.specs.declared.rows.Witness.{Witness}
-use Rattle.rt_drc.specs.Members.{IsOf, box_of}
+use Rattle.rt_pieces.specs.Members.{IsOf, box_of}
 use Rattle.rt_drc.specs.Clashing.{ShareCell, HasGroup, AreGrouped, DoClash}
 use Rattle.rt_drc.specs.Cornering.{HasNearestCells, ShowsNearPieces}
 use Rattle.rt_drc.specs.Nearness.{farthest, grown, AreNear, IsBarOf, IsBarBefore, AreBarsBefore, NearAreGrouped, AreNearStrangers}
-use Rattle.rt_drc.specs.Numbering.{AreNumbersOfPieces}
+use Rattle.rt_pieces.specs.Numbering.{AreNumbersOfPieces}
 use Rattle.rt_drc.proofs.Cornered.{shown}
-use Rattle.rt_drc.proofs.Reading.{last_or_before, on_mask, off_mask}
+use Rattle.rt_cells.proofs.Numbers.{last_or_before}
 
 below_end : (low high by far : ℤ) → low <ℤ far → low <ℤ (high +ℤ by) → low <ℤ int_min (high +ℤ by) far
 below_end low high by far h k = omega (arith, ints, clamps)
@@ -78,90 +78,89 @@ share_near reach strips i j a b of of' share =
       above = below_sum q.bottom p.top reach.upwards farthest moved.rows.second;
     }
 
-before_more : (m : ℕ) (reach : Reach) (strips : List Placed) (n : ℕ) (bar : Bar) → IsBarBefore m reach strips n bar → IsBarBefore m reach strips (n + 1) bar
-before_more m reach strips n bar h = record { before = omega (arith, h.before); strip = h.strip; of_strip = h.of_strip }
+module _ (member : ℕ → Type 0) (reach : Reach) where
+  before_more : (strips : List Placed) (n : ℕ) (bar : Bar) → IsBarBefore member reach strips n bar → IsBarBefore member reach strips (n + 1) bar
+  before_more strips n bar h = record { before = omega (arith, h.before); strip = h.strip; of_strip = h.of_strip }
 
--- the bar of one strip more
-pub bars_more : (m : ℕ) (reach : Reach) (strips : List Strip) (n : ℕ) (strip : Strip) (bars : List Bar) (bar : Bar) → n < length strips → strip ≡ get_or strips n strip
-    → strip.mask ≡ m → bar.tag ≡ n → area bar.at ≡ grown reach (area strip.at) → AreBarsBefore m reach (map placed strips) n bars
-    → AreBarsBefore m reach (map placed strips) (n + 1) (bars ++ bar ∷ [])
-bars_more m reach strips n strip bars bar h is on tag at before =
-    let e = strip_is strips n strip h is in
-    let of_mask = on_mask strips n strip m h (ap (λ (s : Strip). s.mask) (sym is) ∙ on) in
-    let of_strip : IsBarOf reach (map placed strips) n bar = record { number = tag; at = at ∙ ap (λ (p : Placed). grown reach p.area) (sym e) } in
-    let mine : IsBarBefore m reach (map placed strips) (n + 1) bar = record {
-      before = omega (arith, tag);
-      strip = subst (IsOf m (map placed strips)) (sym tag) of_mask;
-      of_strip = subst (λ t. IsBarOf reach (map placed strips) t bar) (sym tag) of_strip;
-    } in
-    record {
-      each = λ x c. elim (Contains-push_cases bars bar x c) [
-        | inl old ↦ before_more m reach (map placed strips) n x (before.each x old)
-        | inr same ↦ subst (IsBarBefore m reach (map placed strips) (n + 1)) same mine
-      ];
-      every = λ i b of. elim (last_or_before n i b) [
-        | inl same ↦ record { bar = bar; listed = Contains-push bars bar; of_strip = subst (λ t. IsBarOf reach (map placed strips) t bar) (sym same) of_strip }
-        | inr less ↦
-            let old = before.every i less of in
-            record { bar = old.bar; listed = Contains-append_left bars (bar ∷ []) old.bar old.listed; of_strip = old.of_strip }
-      ];
-    }
+  -- the bar of one strip more
+  pub bars_more : (strips : List Strip) (n : ℕ) (strip : Strip) (bars : List Bar) (bar : Bar) → n < length strips → strip ≡ get_or strips n strip
+      → member n → bar.tag ≡ n → area bar.at ≡ grown reach (area strip.at) → AreBarsBefore member reach (map placed strips) n bars
+      → AreBarsBefore member reach (map placed strips) (n + 1) (bars ++ bar ∷ [])
+  bars_more strips n strip bars bar h is on tag at before =
+      let e = strip_is strips n strip h is in
+      let of_strip : IsBarOf reach (map placed strips) n bar = record { number = tag; at = at ∙ ap (λ (p : Placed). grown reach p.area) (sym e) } in
+      let mine : IsBarBefore member reach (map placed strips) (n + 1) bar = record {
+        before = omega (arith, tag);
+        strip = subst member (sym tag) on;
+        of_strip = subst (λ t. IsBarOf reach (map placed strips) t bar) (sym tag) of_strip;
+      } in
+      record {
+        each = λ x c. elim (Contains-push_cases bars bar x c) [
+          | inl old ↦ before_more (map placed strips) n x (before.each x old)
+          | inr same ↦ subst (IsBarBefore member reach (map placed strips) (n + 1)) same mine
+        ];
+        every = λ i b of. elim (last_or_before n i b) [
+          | inl same ↦ record { bar = bar; listed = Contains-push bars bar; of_strip = subst (λ t. IsBarOf reach (map placed strips) t bar) (sym same) of_strip }
+          | inr less ↦
+              let old = before.every i less of in
+              record { bar = old.bar; listed = Contains-append_left bars (bar ∷ []) old.bar old.listed; of_strip = old.of_strip }
+        ];
+      }
 
--- a strip of another mask has no bar
-pub bars_same : (m : ℕ) (reach : Reach) (strips : List Strip) (n : ℕ) (strip : Strip) (bars : List Bar) → n < length strips → strip ≡ get_or strips n strip
-    → (strip.mask ≡ m → ⊥) → AreBarsBefore m reach (map placed strips) n bars → AreBarsBefore m reach (map placed strips) (n + 1) bars
-bars_same m reach strips n strip bars h is other before = record {
-  each = λ x c. before_more m reach (map placed strips) n x (before.each x c);
-  every = λ i b of. elim (last_or_before n i b) [
-    | inl same ↦ absurd (off_mask strips n strip m h (λ e. other (ap (λ (s : Strip). s.mask) is ∙ e)) (subst (IsOf m (map placed strips)) same of))
-    | inr less ↦ before.every i less of
-  ];
-}
+  -- another strip has no bar
+  pub bars_same : (strips : List Placed) (n : ℕ) (bars : List Bar) → ¬ member n → AreBarsBefore member reach strips n bars → AreBarsBefore member reach strips (n + 1) bars
+  bars_same strips n bars other before = record {
+    each = λ x c. before_more strips n x (before.each x c);
+    every = λ i b of. elim (last_or_before n i b) [
+      | inl same ↦ absurd (other (subst member same of))
+      | inr less ↦ before.every i less of
+    ];
+  }
 
--- each bar has a group where each strip has one
-pub bars_have_groups : (m : ℕ) (reach : Reach) (strips : List Placed) (n : ℕ) (bars : List Bar) (groups : List ℕ) → AreBarsBefore m reach strips n bars → length groups ≡ n
-    → All (HasGroup groups) bars
-bars_have_groups m reach strips n bars groups are e k d h =
-    let b = (are.each (get_or bars k d) (Contains-get_or bars k d h)).before in
-    record { below = omega (arith, b, e) }
+  -- each bar has a group where each strip has one
+  pub bars_have_groups : (strips : List Placed) (n : ℕ) (bars : List Bar) (groups : List ℕ) → AreBarsBefore member reach strips n bars → length groups ≡ n
+      → All (HasGroup groups) bars
+  bars_have_groups strips n bars groups are e k d h =
+      let b = (are.each (get_or bars k d) (Contains-get_or bars k d h)).before in
+      record { below = omega (arith, b, e) }
 
--- strips of bars that clash are near and of different groups
-pub clash_near : (m : ℕ) (reach : Reach) (strips : List Placed) (n : ℕ) (bars : List Bar) (groups : List ℕ) (clash : Clash) → AreBarsBefore m reach strips n bars
-    → DoClash groups bars clash → AreNearStrangers m reach strips groups clash.first.tag clash.second.tag
-clash_near m reach strips n bars groups clash are clashing =
-    let a = are.each clash.first clashing.first in
-    let b = are.each clash.second clashing.second in
-    record {
-      first = a.strip;
-      second = b.strip;
-      near = share_near reach strips clash.first.tag clash.second.tag clash.first clash.second a.of_strip b.of_strip clashing.share;
-      different = clashing.different;
-    }
+  -- strips of bars that clash are near and of different groups
+  pub clash_near : (strips : List Placed) (n : ℕ) (bars : List Bar) (groups : List ℕ) (clash : Clash) → AreBarsBefore member reach strips n bars
+      → DoClash groups bars clash → AreNearStrangers member reach strips groups clash.first.tag clash.second.tag
+  clash_near strips n bars groups clash are clashing =
+      let a = are.each clash.first clashing.first in
+      let b = are.each clash.second clashing.second in
+      record {
+        first = a.strip;
+        second = b.strip;
+        near = share_near reach strips clash.first.tag clash.second.tag clash.first clash.second a.of_strip b.of_strip clashing.share;
+        different = clashing.different;
+      }
 
--- where bars that share a cell are of one group, so are near strips
-pub grouped_near : (m : ℕ) (reach : Reach) (strips : List Placed) (n : ℕ) (bars : List Bar) (groups : List ℕ) → AreBarsBefore m reach strips n bars → length strips ≡ n
-    → AreGrouped groups bars → NearAreGrouped m reach strips groups
-grouped_near m reach strips n bars groups are e grouped = record {
-  grouped = λ i j h k near.
-      let a = are.every i (omega (arith, h.strip.below_count, e)) h in
-      let b = are.every j (omega (arith, k.strip.below_count, e)) k in
-      sym (ap (λ t. get_or groups t 0) a.of_strip.number)
-      ∙ (grouped.grouped a.bar b.bar a.listed b.listed (near_share reach strips i j a.bar b.bar a.of_strip b.of_strip near) ∙ ap (λ t. get_or groups t 0) b.of_strip.number);
-}
+  -- where bars that share a cell are of one group, so are near strips
+  pub grouped_near : (strips : List Placed) (n : ℕ) (bars : List Bar) (groups : List ℕ) → AreBarsBefore member reach strips n bars → ((i : ℕ) → member i → i < n)
+      → AreGrouped groups bars → NearAreGrouped member reach strips groups
+  grouped_near strips n bars groups are below grouped = record {
+    grouped = λ i j h k near.
+        let a = are.every i (below i h) h in
+        let b = are.every j (below j k) k in
+        sym (ap (λ t. get_or groups t 0) a.of_strip.number)
+        ∙ (grouped.grouped a.bar b.bar a.listed b.listed (near_share reach strips i j a.bar b.bar a.of_strip b.of_strip near) ∙ ap (λ t. get_or groups t 0) b.of_strip.number);
+  }
 
-near_ends : (low high low' high' x u s : ℤ) → Within low high x → Within low' high' u → between x u <ℤ s → (low <ℤ (high' +ℤ s)) × (low' <ℤ (high +ℤ s))
+pub near_ends : (low high low' high' x u s : ℤ) → Within low high x → Within low' high' u → between x u <ℤ s → (low <ℤ (high' +ℤ s)) × (low' <ℤ (high +ℤ s))
 near_ends low high low' high' x u s h k l = (omega (arith, ints, clamps), omega (arith, ints, clamps))
 
-short_gap : (low high low' high' s : ℤ) → pos 1 ≤ℤ s → low <ℤ (high' +ℤ s) → low' <ℤ (high +ℤ s) → gap_of low high low' high' <ℤ s
+pub short_gap : (low high low' high' s : ℤ) → pos 1 ≤ℤ s → low <ℤ (high' +ℤ s) → low' <ℤ (high +ℤ s) → gap_of low high low' high' <ℤ s
 short_gap low high low' high' s p h k = omega (arith, ints, clamps)
 
-both_short : (a b s : ℤ) → a <ℤ s → b <ℤ s → int_max a b <ℤ s
+pub both_short : (a b s : ℤ) → a <ℤ s → b <ℤ s → int_max a b <ℤ s
 both_short a b s h k = omega (arith, ints, clamps)
 
 module _ (m : ℕ) (reach : Reach) (strips : List Placed) (numbers : List ℕ) (family : IsFamily (IsOf m strips) (box_of strips)) (positive : pos 1 ≤ℤ reach.across)
     (level : reach.upwards ≡ reach.across) (pieces : AreNumbersOfPieces m strips numbers) where
   -- where near strips are of one piece, pieces are apart
-  pub pieces_keep : NearAreGrouped m reach strips numbers → KeepsPiecesApart reach.across (CoveredBy (IsOf m strips) (box_of strips))
+  pub pieces_keep : NearAreGrouped (IsOf m strips) reach strips numbers → KeepsPiecesApart reach.across (CoveredBy (IsOf m strips) (box_of strips))
   pieces_keep grouped x y u v c d =
       by_lt_z (between x u) reach.across
       (λ across. by_lt_z (between y v) reach.across
@@ -175,7 +174,7 @@ module _ (m : ℕ) (reach : Reach) (strips : List Placed) (numbers : List ℕ) (
       (λ far. inr (inr far)))
       (λ far. inr (inl far))
 
-  near_cells : (i j : ℕ) → AreNearStrangers m reach strips numbers i j
+  near_cells : (i j : ℕ) → AreNearStrangers (IsOf m strips) reach strips numbers i j
       → AreNearPieces reach.across (CoveredBy (IsOf m strips) (box_of strips))
       (nearest_place (box_of strips i).left (box_of strips i).right (box_of strips j).left) (nearest_place (box_of strips i).bottom (box_of strips i).top (box_of strips j).bottom)
       (nearest_place (box_of strips j).left (box_of strips j).right (box_of strips i).left) (nearest_place (box_of strips j).bottom (box_of strips j).top (box_of strips i).bottom)
@@ -205,6 +204,6 @@ module _ (m : ℕ) (reach : Reach) (strips : List Placed) (numbers : List ℕ) (
       }
 
   -- the nearest cells of near strips of different pieces show that the pieces are too near
-  pub near_shown : (i j : ℕ) → AreNearStrangers m reach strips numbers i j → (witness : Witness) → HasNearestCells (box_of strips i) (box_of strips j) witness
+  pub near_shown : (i j : ℕ) → AreNearStrangers (IsOf m strips) reach strips numbers i j → (witness : Witness) → HasNearestCells (box_of strips i) (box_of strips j) witness
       → ShowsNearPieces reach.across (CoveredBy (IsOf m strips) (box_of strips)) witness
   near_shown i j near witness at = shown (AreNearPieces reach.across (CoveredBy (IsOf m strips) (box_of strips))) _ _ _ _ _ witness at (near_cells i j near)

@@ -15,7 +15,7 @@ use Rattle.rt_sweep.specs.Slabs.{IsActive, IsSlab, Passing, AreBelow, PassesSlab
 use Rattle.rt_family.specs.Strips.{ShareColumn}
 use Rattle.rt_drc.specs.declared.clash.Clash.{Clash}
 use Rattle.rt_drc.specs.Clashing.{group_of, HasGroup, AreGroupedAcross, ClashAcross, AreGrouped, DoClash, IsStrange, IsFamiliar}
-use Rattle.rt_drc.proofs.Reading.{last_or_before}
+use Rattle.rt_cells.proofs.Numbers.{last_or_before, by_lt_n}
 
 -- of the bars before number n any two that have a column in common are of one group
 pub record AreGroupedBefore (groups : List ℕ) (bar : ℕ → Bar) (n : ℕ) : Type 0 where
@@ -185,9 +185,6 @@ familiar_at : (groups : List ℕ) (bars : List Bar) (d : Bar) (far n : ℕ) (fir
 familiar_at groups bars d far n first second h k e f familiar =
     subst (λ t. IsFamiliar groups t (get_or bars n d)) (e ∙ get_or_default bars far first d h)
     (subst (λ t. IsFamiliar groups first t) (f ∙ get_or_default bars n second d k) familiar)
-
-by_lt_n : {P : Type 0} (a b : ℕ) → (a < b → P) → (b ≤ a → P) → P
-by_lt_n {P} a b f g = elim (cases_order a b) [ inl e ↦ g (omega (arith, e)) | inr (inl h) ↦ f h | inr (inr h) ↦ g (omega (arith, h)) ]
 
 module _ (groups : List ℕ) (bars : List Bar) (n far : ℕ) (first second : Bar) (there : n < length bars) (is_far : IsFarthest n far)
     (walked : (d : Bar) → AreWalked groups (λ k. get_or bars k d) n far) (in_order : AllPairs (λ a b. a.at.x1 ≤ℤ b.at.x1) bars)

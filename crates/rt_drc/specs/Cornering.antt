@@ -7,7 +7,7 @@ use Rattle.rt_cells.specs.Rectangles.{Rectangle, columns_between, rows_between}
 use Rattle.rt_rules.specs.Space.{AreNearPieces}
 use Rattle.rt_strips.specs.Placed.{Placed}
 use Rattle.rt_drc.specs.declared.rows.Witness.{Witness}
-use Rattle.rt_drc.specs.Members.{IsOf, box_of}
+use Rattle.rt_pieces.specs.Members.{IsOf, box_of}
 
 -- the witness has these cells and this number
 pub record IsShownAt (x y u v number : ℤ) (witness : Witness) : Type 0 where

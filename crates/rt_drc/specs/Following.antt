@@ -7,7 +7,7 @@ use Rattle.rt_strips.specs.Placed.{Placed, strip_at, left_of, right_of}
 use Rattle.rt_strips.specs.Standing.{IsStrip}
 use Rattle.rt_family.specs.Strips.{ShareRow}
 use Rattle.rt_drc.specs.declared.rows.Witness.{Witness}
-use Rattle.rt_drc.specs.Members.{IsOf, box_of}
+use Rattle.rt_pieces.specs.Members.{IsOf, box_of}
 
 -- the strip is of mask m, has the cell's row, and begins at the cell's column or after it
 pub record BeginsAfter (m : ℕ) (cell : Cell) (p : Placed) : Type 0 where

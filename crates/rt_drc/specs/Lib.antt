@@ -2,13 +2,16 @@ pub mod Rows
 pub mod Wide
 pub mod Axes
 pub mod Masks
--- the strips of one mask, their gaps and corners
-pub mod Members
+-- the gaps and corners of a mask
 pub mod Following
 pub mod Cornering
--- bars that share cells, strips that are near, numbers of pieces
+-- bars that share cells, strips that are near
 pub mod Clashing
 pub mod Nearness
-pub mod Numbering
 -- the search for a breach
 pub mod Spacing
+-- which strips count; cuts by size, by what encloses them, by their distance
+pub mod Counting
+pub mod Squares
+pub mod Enclosing
+pub mod Distances

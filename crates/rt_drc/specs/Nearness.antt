@@ -1,4 +1,4 @@
--- Strips of one mask that are near each other, and the bars that tell it.
+-- Strips that are near each other, and the bars that tell it.
 use Rattle.std.specs.Prelude.{◌≡◌, ℕ, ◌<◌, ◌-◌, ◌^◌, ℤ, pos, ◌+ℤ◌, ◌<ℤ◌, List, Contains, slice_index}
 use Rattle.std.specs.Int.{int_min}
 use Rattle.rt_cells.specs.Rectangles.{Rectangle}
@@ -6,7 +6,7 @@ use Rattle.rt_base.specs.Plane.{area}
 use Rattle.rt_sweep.specs.declared.bar.Bar.{Bar}
 use Rattle.rt_strips.specs.Placed.{Placed}
 use Rattle.rt_drc.specs.declared.reach.Reach.{Reach}
-use Rattle.rt_drc.specs.Members.{IsOf, box_of}
+use Rattle.rt_pieces.specs.Members.{box_of}
 
 -- the farthest that a side of a rectangle may lie
 abbrev pub farthest : ℤ
@@ -34,25 +34,25 @@ pub record HasBar (reach : Reach) (strips : List Placed) (bars : List Bar) (i : 
   pub listed : Contains bars bar
   pub of_strip : IsBarOf reach strips i bar
 
--- the bar is that of a strip of mask m before number n
-pub record IsBarBefore (m : ℕ) (reach : Reach) (strips : List Placed) (n : ℕ) (bar : Bar) : Type 0 where
+-- the bar is that of one of some strips, before number n
+pub record IsBarBefore (member : ℕ → Type 0) (reach : Reach) (strips : List Placed) (n : ℕ) (bar : Bar) : Type 0 where
   pub before : bar.tag < n
-  pub strip : IsOf m strips bar.tag
+  pub strip : member bar.tag
   pub of_strip : IsBarOf reach strips bar.tag bar
 
--- the bars are those of the strips of mask m before number n
-pub record AreBarsBefore (m : ℕ) (reach : Reach) (strips : List Placed) (n : ℕ) (bars : List Bar) : Type 0 where
-  pub each : (bar : Bar) → Contains bars bar → IsBarBefore m reach strips n bar
-  pub every : (i : ℕ) → i < n → IsOf m strips i → HasBar reach strips bars i
+-- the bars are those of some strips before number n
+pub record AreBarsBefore (member : ℕ → Type 0) (reach : Reach) (strips : List Placed) (n : ℕ) (bars : List Bar) : Type 0 where
+  pub each : (bar : Bar) → Contains bars bar → IsBarBefore member reach strips n bar
+  pub every : (i : ℕ) → i < n → member i → HasBar reach strips bars i
 
--- strips of mask m that are near are of one group
-pub record NearAreGrouped (m : ℕ) (reach : Reach) (strips : List Placed) (groups : List ℕ) : Type 0 where
-  pub grouped : (i j : ℕ) → IsOf m strips i → IsOf m strips j → AreNear reach (box_of strips i) (box_of strips j)
+-- some strips that are near are of one group
+pub record NearAreGrouped (member : ℕ → Type 0) (reach : Reach) (strips : List Placed) (groups : List ℕ) : Type 0 where
+  pub grouped : (i j : ℕ) → member i → member j → AreNear reach (box_of strips i) (box_of strips j)
       → slice_index groups i ≡ slice_index groups j
 
--- strips i and j of mask m are near, and of different groups
-pub record AreNearStrangers (m : ℕ) (reach : Reach) (strips : List Placed) (groups : List ℕ) (i j : ℕ) : Type 0 where
-  pub first : IsOf m strips i
-  pub second : IsOf m strips j
+-- strips i and j, two of some strips, are near and of different groups
+pub record AreNearStrangers (member : ℕ → Type 0) (reach : Reach) (strips : List Placed) (groups : List ℕ) (i j : ℕ) : Type 0 where
+  pub first : member i
+  pub second : member j
   pub near : AreNear reach (box_of strips i) (box_of strips j)
   pub different : ¬ (slice_index groups i ≡ slice_index groups j)

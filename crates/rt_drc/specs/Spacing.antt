@@ -4,7 +4,7 @@ use Rattle.rt_strips.specs.Placed.{placed}
 use Rattle.rt_strips.specs.Seams.{AreSeamsOf}
 use Rattle.rt_drc.specs.declared.reach.Reach.{Reach}
 use Rattle.rt_drc.specs.declared.rows.Rows.{Rows}
-use Rattle.rt_drc.specs.Members.{AreOfFamily, held_by}
+use Rattle.rt_pieces.specs.Members.{AreOfFamily, held_by}
 
 -- the strips along rows and along columns have numbers of 32 bits
 pub record AreFew (rows columns : Rows) : Type 0 where

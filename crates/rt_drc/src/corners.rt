@@ -3,7 +3,7 @@ ghost use Rattle.std.specs.Prelude.{map, MatchOption};
 ghost use Rattle.rt_base.specs.Plane.{area};
 ghost use Rattle.rt_strips.specs.Placed.{placed};
 ghost use Rattle.rt_strips.specs.Seams.{AreSeamsOf};
-ghost use Rattle.rt_drc.specs.Members.{AreOfFamily, held_by};
+ghost use Rattle.rt_pieces.specs.Members.{AreOfFamily, held_by};
 ghost use Rattle.rt_drc.specs.Cornering.{HasNoCornerContact, IsCornerOf, MeetAtNoCorner, ShowsCorner};
 
 use crate::rows::{Rows, Witness};

@@ -4,15 +4,15 @@ ghost use Rattle.std.specs.Int.{int_max};
 ghost use Rattle.rt_base.specs.Plane.{IsSide};
 ghost use Rattle.rt_rules.specs.Space.{KeepsGapsAlongRows};
 ghost use Rattle.rt_strips.specs.Placed.{placed};
-ghost use Rattle.rt_drc.specs.Members.{AreOfFamily, held_by};
+ghost use Rattle.rt_pieces.specs.Members.{AreOfFamily, held_by};
 ghost use Rattle.rt_drc.specs.Cornering.{IsShownAt};
 ghost use Rattle.rt_drc.specs.Following.{BeginsAfter, ComesSooner, ComesNoSooner, IsAfter, IsNextBefore, Follows, AreNeighbours, ShowsGap};
 
 use crate::near::{Pair, first_near};
-use crate::numbers::own_numbers;
 use crate::reach::Reach;
 use crate::rows::Witness;
 use rt_base::{Cell, OutOfMemory, Rect};
+use rt_pieces::own_numbers;
 use rt_strips::Strip;
 use std::alloc::Global;
 

@@ -4,6 +4,7 @@ ghost use Rattle.std.specs.Int.{int_min};
 ghost use Rattle.rt_base.specs.Plane.{area, IsSide};
 ghost use Rattle.rt_tech.specs.Tech.{IsReach};
 ghost use Rattle.rt_strips.specs.Placed.{placed};
+ghost use Rattle.rt_pieces.specs.Members.{IsOf};
 ghost use Rattle.rt_drc.specs.Nearness.{farthest, grown, AreBarsBefore, NearAreGrouped, AreNearStrangers};
 
 use crate::clash::first_clash;
@@ -22,8 +23,8 @@ pub(crate) struct Pair {
     pub(crate) second: u32,
 }
 
-// The farthest that a side of a rectangle may lie.
-const FARTHEST: i64 = 4_611_686_018_427_387_903;
+/// The farthest that a side of a rectangle may lie.
+pub(crate) const FARTHEST: i64 = 4_611_686_018_427_387_903;
 
 /// Two strips of mask number `m` that are near and of different groups, if there are any. Strip i is of the group `groups[i]`.
 /// The one error is a want of memory.
@@ -37,8 +38,8 @@ pub(crate) fn first_near(
     requires few { length strips.now < 2 ^ 32 }
     requires groups { length groups.now ≡ length strips.now }
     ensures { IfOk result (λ found. MatchOption found
-        (NearAreGrouped m reach.now (map placed strips.now) groups.now)
-        (λ pair. AreNearStrangers m reach.now (map placed strips.now) groups.now pair.first pair.second)) }
+        (NearAreGrouped (IsOf m (map placed strips.now)) reach.now (map placed strips.now) groups.now)
+        (λ pair. AreNearStrangers (IsOf m (map placed strips.now)) reach.now (map placed strips.now) groups.now pair.first pair.second)) }
 {
     let bars = grown_bars(alloc, strips, m, reach)?;
     match first_clash(alloc, bars, groups)? {
@@ -58,7 +59,7 @@ fn grown_bars(
     reach: &Reach,
 ) -> Result<Vec<Bar>, OutOfMemory>
     requires few { length strips.now < 2 ^ 32 }
-    ensures { IfOk result (λ bars. AreBarsBefore m reach.now (map placed strips.now) (length strips.now) bars.items) }
+    ensures { IfOk result (λ bars. AreBarsBefore (IsOf m (map placed strips.now)) reach.now (map placed strips.now) (length strips.now) bars.items) }
 {
     let mut bars = Vec::new(alloc);
     for i in 0..strips.len() {
@@ -73,8 +74,8 @@ fn grown_bars(
     Ok(bars)
 }
 
-// The rectangle grown to the right and upwards by the reach, as far as a side may lie.
-fn grown(at: &Rect, reach: &Reach) -> Rect
+/// The rectangle grown to the right and upwards by the reach, as far as a side may lie.
+pub(crate) fn grown(at: &Rect, reach: &Reach) -> Rect
     ensures { area result ≡ grown reach.now (area at.now) }
 {
     let right = farther(at.x2, reach.across);

@@ -8,14 +8,14 @@ ghost use Rattle.rt_rules.specs.Space.{KeepsPiecesApart};
 ghost use Rattle.rt_strips.specs.Placed.{placed};
 ghost use Rattle.rt_strips.specs.Standing.{IsStrip};
 ghost use Rattle.rt_strips.specs.Seams.{AreSeamsOf};
-ghost use Rattle.rt_drc.specs.Members.{AreOfFamily, held_by, box_of};
+ghost use Rattle.rt_pieces.specs.Members.{AreOfFamily, held_by, box_of};
 ghost use Rattle.rt_drc.specs.Cornering.{HasNearestCells, ShowsNearPieces};
 
 use crate::near::{Pair, first_near};
-use crate::numbers::piece_numbers;
 use crate::reach::Reach;
 use crate::rows::{Rows, Witness};
 use rt_base::{Cell, OutOfMemory, Rect, gap_x, gap_y};
+use rt_pieces::piece_numbers;
 use rt_strips::Strip;
 use std::alloc::Global;
 
@@ -36,15 +36,15 @@ pub(crate) fn near_pieces(
         (KeepsPiecesApart reach.now.across (held_by m rows.now.strips.now))
         (ShowsNearPieces reach.now.across (held_by m rows.now.strips.now))) }
 {
-    let numbers = piece_numbers(alloc, rows, m)?;
+    let numbers = piece_numbers(alloc, rows.strips, rows.seams, m)?;
     match first_near(alloc, rows.strips, m, numbers.as_slice(), reach)? {
         Some(pair) => Ok(Some(cells_of_pair(rows.strips, &pair))),
         None => Ok(None),
     }
 }
 
-// The nearest cells of two strips.
-fn cells_of_pair(strips: &[Strip], pair: &Pair) -> Witness
+/// The nearest cells of two strips.
+pub(crate) fn cells_of_pair(strips: &[Strip], pair: &Pair) -> Witness
     requires first { IsStrip (map placed strips.now) pair.now.first }
     requires second { IsStrip (map placed strips.now) pair.now.second }
     ensures { HasNearestCells (box_of (map placed strips.now) pair.now.first) (box_of (map placed strips.now) pair.now.second) result }
@@ -84,8 +84,8 @@ fn nearest_cell(of: &Rect, to: &Rect) -> Cell
     Cell { x, y }
 }
 
-// The place from `low` up to, and without, `high` that is nearest to `other`.
-fn nearest(low: i64, high: i64, other: i64) -> i64
+/// The place from `low` up to, and without, `high` that is nearest to `other`.
+pub(crate) fn nearest(low: i64, high: i64, other: i64) -> i64
     requires { low <ℤ high }
     ensures { result ≡ nearest_place low high other }
 {

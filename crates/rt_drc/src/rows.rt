@@ -13,15 +13,15 @@ pub(crate) struct Rows<'a> {
     pub(crate) seams: &'a [Seam],
 }
 
-/// What shows that a rule is broken, in source database units.
+/// What shows that a rule is broken, in the units of the strips. (This project's own.)
 #[derive(Clone, Copy, Drop)]
-pub(crate) struct Witness {
+pub struct Witness {
     /// One of the two cells between which it is broken.
-    pub(crate) p: Cell,
+    pub p: Cell,
     /// The other one.
-    pub(crate) q: Cell,
+    pub q: Cell,
     /// The extent or the gap that was found.
-    pub(crate) found: i64,
+    pub found: i64,
 }
 
 impl Witness {

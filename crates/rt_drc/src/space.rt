@@ -3,7 +3,7 @@ ghost use Rattle.std.specs.Prelude.{◌≡◌, ◌<◌, ◌^◌, length, IfOk, M
 ghost use Rattle.rt_rules.specs.Space.{KeepsSpace};
 ghost use Rattle.rt_tech.specs.Tech.{IsLength};
 ghost use Rattle.rt_drc.specs.Rows.{AreRowsOf, cells_of, turned_cells_of, ShowsSpace};
-ghost use Rattle.rt_drc.specs.Members.{held_by};
+ghost use Rattle.rt_pieces.specs.Members.{held_by};
 ghost use Rattle.rt_drc.specs.Spacing.{AreFew, AreFamilies, AreReaches};
 
 use crate::corners::corner_contact;

@@ -4,9 +4,9 @@ use Rattle.rt_base.specs.Plane.{area}
 use Rattle.rt_strips.specs.declared.contact.Seam.{Seam}
 use Rattle.rt_strips.specs.Placed.{placed}
 use Rattle.rt_strips.proofs.Placed.{strip_below}
-use Rattle.rt_drc.specs.Members.{IsOf, box_of}
+use Rattle.rt_pieces.specs.Members.{IsOf, box_of}
 use Rattle.rt_drc.specs.Cornering.{IsCornerOf, HasNoCorner}
-use Rattle.rt_drc.proofs.Reading.{box_at, on_mask, off_mask, seam_at}
+use Rattle.rt_pieces.proofs.Reading.{box_at, on_mask, off_mask, seam_at}
 use Rattle.rt_drc.proofs.Cornered.{corner_shows, read_no_corner, read_other_mask, no_corners}
 use Rattle.rt_drc.proofs.corners.corner_contact.Goals as goal
 use Rattle.rt_drc.proofs.corners.corner_contact.Goals.{then-lower-m+in_default, else-lower-m}

@@ -6,7 +6,7 @@ use Rattle.rt_strips.specs.Placed.{placed}
 use Rattle.rt_strips.proofs.Placed.{strip_below}
 use Rattle.rt_drc.specs.Cornering.{IsShownAt}
 use Rattle.rt_drc.specs.Following.{IsNextBefore}
-use Rattle.rt_drc.proofs.Reading.{box_at}
+use Rattle.rt_pieces.proofs.Reading.{box_at}
 use Rattle.rt_drc.proofs.Gapped.{gap_shown}
 use Rattle.rt_drc.proofs.gaps.gap_behind.Goals as goal
 

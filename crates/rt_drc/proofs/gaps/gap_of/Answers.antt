@@ -3,8 +3,8 @@ use Rattle.std.proofs.lemmas.Int.{ints}
 use Rattle.rt_cells.specs.Rectangles.{Rectangle}
 use Rattle.rt_strips.specs.Placed.{placed}
 use Rattle.rt_strips.proofs.Placed.{strip_below}
-use Rattle.rt_drc.specs.Members.{box_of}
-use Rattle.rt_drc.proofs.Reading.{box_at}
+use Rattle.rt_pieces.specs.Members.{box_of}
+use Rattle.rt_pieces.proofs.Reading.{box_at}
 use Rattle.rt_drc.proofs.Gapped.{neighbours_there, follows_first, follows_second}
 use Rattle.rt_drc.proofs.gaps.gap_of.Goals as goal
 

@@ -2,8 +2,9 @@ use Rattle.std.proofs.Common.{map, subst, sym}
 use Rattle.std.proofs.lemmas.Option.{MatchOption-at_some, MatchOption-at_none}
 use Rattle.rt_strips.specs.Placed.{placed}
 use Rattle.rt_drc.specs.declared.near.Pair.{Pair}
+use Rattle.rt_pieces.specs.Members.{IsOf}
 use Rattle.rt_drc.specs.Nearness.{NearAreGrouped, AreNearStrangers}
-use Rattle.rt_drc.specs.Numbering.{AreNumbersOfPieces}
+use Rattle.rt_pieces.specs.Numbering.{AreNumbersOfPieces}
 use Rattle.rt_drc.proofs.Nearby.{near_shown, pieces_keep}
 use Rattle.rt_drc.proofs.pieces.near_pieces.Goals as goal
 
@@ -13,8 +14,8 @@ returns-in-Some c =
     let numbers = c.as_slice.result.now in
     near_shown c.args.m c.args.reach.now strips numbers c.requires.family c.requires.across c.requires.upwards
     (subst (AreNumbersOfPieces c.args.m strips) (sym c.as_slice.ensures.value) c.in_ok-numbers.ensures) c.in-Some.pair.first c.in-Some.pair.second
-    (MatchOption-at_some (NearAreGrouped c.args.m c.args.reach.now strips numbers)
-    (λ (pair : Pair). AreNearStrangers c.args.m c.args.reach.now strips numbers pair.first pair.second) c.in-Some.pair c.in-Some.is c.in_ok-pair.ensures)
+    (MatchOption-at_some (NearAreGrouped (IsOf c.args.m strips) c.args.reach.now strips numbers)
+    (λ (pair : Pair). AreNearStrangers (IsOf c.args.m strips) c.args.reach.now strips numbers pair.first pair.second) c.in-Some.pair c.in-Some.is c.in_ok-pair.ensures)
     c.cells_of_pair.result c.cells_of_pair.ensures
 
 pub returns : goal.returns
@@ -23,5 +24,5 @@ returns c =
     let numbers = c.as_slice.result.now in
     pieces_keep c.args.m c.args.reach.now strips numbers c.requires.family c.requires.across c.requires.upwards
     (subst (AreNumbersOfPieces c.args.m strips) (sym c.as_slice.ensures.value) c.in_ok-numbers.ensures)
-    (MatchOption-at_none (NearAreGrouped c.args.m c.args.reach.now strips numbers)
-    (λ (pair : Pair). AreNearStrangers c.args.m c.args.reach.now strips numbers pair.first pair.second) c.in-None.is c.in_ok-pair.ensures)
+    (MatchOption-at_none (NearAreGrouped (IsOf c.args.m strips) c.args.reach.now strips numbers)
+    (λ (pair : Pair). AreNearStrangers (IsOf c.args.m strips) c.args.reach.now strips numbers pair.first pair.second) c.in-None.is c.in_ok-pair.ensures)

@@ -1,6 +1,6 @@
 use Rattle.std.proofs.lemmas.Option.{MatchOption-at_none}
 use Rattle.rt_rules.specs.Space.{KeepsGapsAlongRows}
-use Rattle.rt_drc.specs.Members.{held_by}
+use Rattle.rt_pieces.specs.Members.{held_by}
 use Rattle.rt_drc.specs.Following.{ShowsGap}
 use Rattle.rt_drc.proofs.Breaching.{pieces_decide}
 use Rattle.rt_drc.proofs.space.breach_of.Goals as goal

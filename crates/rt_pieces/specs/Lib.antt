@@ -1,0 +1,4 @@
+-- the strips of one mask
+pub mod Members
+-- numbers of pieces
+pub mod Numbering
