@@ -1,7 +1,7 @@
 //! What the tables of cases are written in: a part stands for an element, and a name with parts for a structure.
 use crate::drawable::all_drawable;
 use gds_flat::{FlatError, flatten};
-use gds_stream::{Element, Library, Place, Structure};
+use gds_stream::{Element, Library, Place, Points, Structure};
 use rt_base::{List, Point, Text};
 use rt_layout::Layout;
 use rt_tables::read_tech;
@@ -99,7 +99,7 @@ fn shape(alloc: Global, layer: i16, datatype: i16, corners: Corners) -> Result<E
         offset: 7,
         layer,
         datatype,
-        points: points(alloc, corners)?,
+        points: Points::of(points(alloc, corners)?),
     })
 }
 
@@ -110,7 +110,7 @@ fn line(alloc: Global, pathtype: i16, width: i32, corners: Corners) -> Result<El
         datatype: 0,
         pathtype,
         width,
-        points: points(alloc, corners)?,
+        points: Points::of(points(alloc, corners)?),
     })
 }
 

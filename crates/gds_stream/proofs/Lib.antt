@@ -19,4 +19,4 @@ pub mod Lacking
 pub mod Giving
 pub mod Naming
 pub mod Taking
-pub mod Points
+pub mod Eights

@@ -1,3 +1,4 @@
+pub mod Kept
 pub mod Elements
 pub mod Contents
 pub mod Written

@@ -5,6 +5,7 @@ ghost use Rattle.rt_base.specs.Text.{IsText};
 ghost use Rattle.gds_grammar.specs.Conditions.{trim};
 ghost use Rattle.gds_stream.specs.Contents.{two_bytes, four_bytes, points_in, first_of};
 
+use crate::points::Points;
 use rt_base::{List, OutOfMemory, Point, Text};
 use std::alloc::Global;
 
@@ -48,7 +49,18 @@ pub fn point_of(bytes: &[u8]) -> Point
 }
 
 /// The points of some data.
-pub fn points_of(alloc: Global, bytes: &[u8]) -> Result<List<Point>, OutOfMemory>
+pub fn points_of(alloc: Global, bytes: &[u8]) -> Result<Points, OutOfMemory>
+    ensures { IfOk result (λ points. points ≡ points_in bytes.now) }
+{
+    if bytes.len() == 40 {
+        return Ok(Points::five(five_points(bytes)));
+    }
+    let points = listed(alloc, bytes)?;
+    Ok(Points::of(points))
+}
+
+// The points of some data, as a list.
+fn listed(alloc: Global, bytes: &[u8]) -> Result<List<Point>, OutOfMemory>
     ensures { IfOk result (λ points. points ≡ points_in bytes.now) }
 {
     let mut points = Vec::with_capacity(alloc, bytes.len() / 8)?;
@@ -58,6 +70,20 @@ pub fn points_of(alloc: Global, bytes: &[u8]) -> Result<List<Point>, OutOfMemory
         rest = &rest[8..];
     }
     Ok(List::of(points))
+}
+
+// The five points of some data.
+fn five_points(bytes: &[u8]) -> [Point; 5]
+    requires { length bytes.now ≡ 40 }
+    ensures { result ≡ points_in bytes.now }
+{
+    [
+        point_of(bytes),
+        point_of(&bytes[8..]),
+        point_of(&bytes[16..]),
+        point_of(&bytes[24..]),
+        point_of(&bytes[32..]),
+    ]
 }
 
 /// The three points of some data.

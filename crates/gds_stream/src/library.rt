@@ -2,6 +2,7 @@
 ghost use Rattle.std.specs.Prelude.{◌≡◌, Some, None, MatchOption};
 ghost use Rattle.gds_stream.specs.Elements.{offset_of, target_of};
 
+use crate::points::Points;
 use rt_base::{List, Point, Text};
 
 /// How a reference turns and scales what it places, as the stream says it. (GDSII Release 6: STRANS, MAG and ANGLE.)
@@ -24,7 +25,7 @@ pub enum Element {
         offset: u64,
         layer: i16,
         datatype: i16,
-        points: List<Point>,
+        points: Points,
     },
     /// A path: how it ends, its width and the points that it goes through.
     Path {
@@ -33,7 +34,7 @@ pub enum Element {
         datatype: i16,
         pathtype: i16,
         width: i32,
-        points: List<Point>,
+        points: Points,
     },
     /// A structure that is placed once.
     Sref {

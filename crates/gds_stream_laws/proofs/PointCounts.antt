@@ -5,7 +5,7 @@ use Rattle.gds_records.specs.declared.types.TheConstants.{BOUNDARY, PATH, AREF}
 use Rattle.gds_grammar.specs.Conditions.{AreCountedPoints}
 use Rattle.gds_stream.specs.Contents.{points_in}
 use Rattle.gds_stream_laws.specs.Lawful.{IsPolygon}
-use Rattle.gds_stream.proofs.Points.{no_point, one_point}
+use Rattle.gds_stream.proofs.Eights.{no_point, one_point}
 
 count_points : (n : ℕ) (bytes : List ℕ) → length bytes ≡ 8 * n → length (points_in bytes) ≡ n
 count_points zero bytes long = ap length (no_point bytes (omega (arith, long)))

@@ -6,6 +6,7 @@ use Rattle.std.proofs.lemmas.List.Elements.{Contains-push, Contains-push_cases, 
 use Rattle.std.specs.Int.{int_max}
 use Rattle.rt_cells.specs.Line.{Within, between, nearest_place}
 use Rattle.rt_cells.specs.Rectangles.{Rectangle, IsNonempty, Holds}
+use Rattle.rt_cells.proofs.Rectangles.{same_sides}
 use Rattle.rt_cells.proofs.Lines.{nearest_within}
 use Rattle.rt_rules.specs.Cuts.{KeepsEnclosed, EnclosureBreach}
 use Rattle.rt_base.specs.declared.plane.Cell.{Cell}
@@ -162,10 +163,6 @@ pub whole_keeps : (counted : Counted) (m : ℕ) (strips : List Strip) (number : 
 whole_keeps counted m strips number all x y u v c near =
     (held_alike m (map placed strips)).from u v
     ((all.whole c.number c.holds.strip).covered u v (near_grown number (box_of (map placed strips) c.number) x y u v c.holds.cell near))
-
--- rectangles with the same sides
-pub same_sides : (a b : Rectangle) → a.left ≡ b.left → a.right ≡ b.right → a.bottom ≡ b.bottom → a.top ≡ b.top → a ≡ b
-same_sides a b left right bottom top = λ t. record { left = left t; right = right t; bottom = bottom t; top = top t }
 
 -- a rectangle is known by what it is when it is grown
 grown_once : (number : ℤ) (a b : Rectangle) → grown number a ≡ grown number b → a ≡ b

@@ -1,4 +1,4 @@
-use Rattle.gds_stream.proofs.Points.{tail_of, three}
+use Rattle.gds_stream.proofs.Eights.{tail_of, three}
 use Rattle.gds_stream.proofs.data.three_points.Goals as goal
 
 pub returns : goal.returns

@@ -1,7 +1,7 @@
 use Rattle.std.proofs.Common.{ℕ, ◌<◌, List, All, sym, subst}
 use Rattle.std.proofs.lemmas.List.Elements.{All-drop}
 use Rattle.gds_records.proofs.Bytes.{are_bytes}
-use Rattle.gds_stream.proofs.Points.{tail_of}
+use Rattle.gds_stream.proofs.Eights.{tail_of}
 use Rattle.gds_stream.proofs.reader.tail.Goals as goal
 
 pub returns-clause-bytes : goal.returns-clause-bytes

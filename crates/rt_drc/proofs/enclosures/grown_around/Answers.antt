@@ -1,6 +1,6 @@
 use Rattle.std.proofs.Common.{arith}
 use Rattle.std.proofs.lemmas.Int.{ints}
-use Rattle.rt_drc.proofs.Enclosed.{same_sides}
+use Rattle.rt_cells.proofs.Rectangles.{same_sides}
 use Rattle.rt_drc.proofs.enclosures.grown_around.Goals as goal
 
 pub invariant_of-result : goal.invariant_of-result

@@ -1,7 +1,7 @@
 use Rattle.std.proofs.Common.{◌≡◌, ◌+ℤ◌, ◌-ℤ◌, ap, arith}
 use Rattle.std.proofs.lemmas.Int.{ints}
 use Rattle.rt_cells.specs.Rectangles.{Rectangle}
-use Rattle.rt_drc.proofs.Enclosed.{same_sides}
+use Rattle.rt_cells.proofs.Rectangles.{same_sides}
 use Rattle.rt_drc.proofs.enclosures.shrunk.Goals as goal
 
 pub invariant_of-result : goal.invariant_of-result

@@ -3,7 +3,7 @@ use Rattle.std.specs.Int.{w16}
 use Rattle.std.proofs.lemmas.Int.{to_z-of_z}
 use Rattle.gds_stream.specs.Contents.{two_bytes}
 use Rattle.gds_stream.proofs.Giving.{ok_then}
-use Rattle.gds_stream.proofs.Points.{tail_of}
+use Rattle.gds_stream.proofs.Eights.{tail_of}
 use Rattle.gds_stream.proofs.Values.{one_only, turn_not_there, array_is}
 use Rattle.gds_stream.proofs.reader.Reader.array.Goals as goal
 

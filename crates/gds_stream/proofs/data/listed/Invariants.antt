@@ -1,6 +1,6 @@
 use Rattle.std.proofs.Common.{◌≡◌, ◌++◌, length}
 use Rattle.gds_stream.specs.Contents.{points_in}
-use Rattle.gds_stream.proofs.data.points_of.Given as goal
+use Rattle.gds_stream.proofs.data.listed.Given as goal
 
 abbrev pub invariant-loop-rest : goal.invariant-loop-rest
 invariant-loop-rest l = l.points.items ++ points_in l.rest ≡ points_in l.bytes

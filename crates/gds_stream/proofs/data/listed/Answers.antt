@@ -1,7 +1,7 @@
 use Rattle.std.proofs.Common.{arith}
 use Rattle.gds_stream.specs.Contents.{points_in}
-use Rattle.gds_stream.proofs.Points.{tail_of, points_go_on}
-use Rattle.gds_stream.proofs.data.points_of.Goals as goal
+use Rattle.gds_stream.proofs.Eights.{tail_of, points_go_on}
+use Rattle.gds_stream.proofs.data.listed.Goals as goal
 
 pub loop-rest-preserved : goal.loop-rest-preserved
 loop-rest-preserved c =
