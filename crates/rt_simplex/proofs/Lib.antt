@@ -13,3 +13,6 @@ pub mod TakenRows
 pub mod Shown
 pub mod Gathered
 pub mod Starts
+pub mod Determined
+pub mod OneRun
+pub mod AddedCosts

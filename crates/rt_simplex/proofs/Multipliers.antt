@@ -44,7 +44,7 @@ total_split n (suc k) f = let e : n + suc k ≡ suc (n + k) = omega arith in ap 
     regrouped a b c d e = omega (arith, ints, e)
 
 -- the terms at values that are the same at their columns
-sum_same : (strips : ℕ) (f g : ℕ → ℤ) (terms : List (Option Term)) → HaveColumns strips terms → ((j : ℕ) → j < 2 * strips + 2 → f (suc j) ≡ g (suc j))
+pub sum_same : (strips : ℕ) (f g : ℕ → ℤ) (terms : List (Option Term)) → HaveColumns strips terms → ((j : ℕ) → j < 2 * strips + 2 → f (suc j) ≡ g (suc j))
     → sum_of_terms (λ var. f (suc (column_of strips var))) terms ≡ sum_of_terms (λ var. g (suc (column_of strips var))) terms
 sum_same strips f g [] have same = refl
 sum_same strips f g (None ∷ terms) have same = ap (λ z. pos 0 +ℤ z) (sum_same strips f g terms have same)

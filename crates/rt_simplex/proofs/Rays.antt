@@ -1,7 +1,7 @@
 -- The rows of a ray have no point.
 use Rattle.std.proofs.Common.{◌≡◌, ℕ, zero, suc, ◌<◌, ℤ, pos, ◌+ℤ◌, ◌*ℤ◌, ◌≤ℤ◌, ◌<ℤ◌, sym, subst, ◌∙◌, arith}
 use Rattle.std.proofs.lemmas.Int.{ints, by_lt_z}
-use Rattle.rt_cells.proofs.Times.{times_le, times_lt, product_not_negative}
+use Rattle.rt_cells.proofs.Times.{times_lt, product_not_negative}
 use Rattle.rt_proofs.proofs.Products.{times_comm}
 use Rattle.rt_solved.specs.Lines.{total}
 use Rattle.rt_solved.specs.Systems.{columns_of}

@@ -1,12 +1,11 @@
 -- Numbers as code reads them.
-use Rattle.std.proofs.Common.{◌≡◌, ℕ, suc, ◌<◌, ◌≤◌, Bool, true, false, ◌==◌, if◌then◌else◌, ℤ, pos, negsuc, neg_ℤ, ◌-ℤ◌, ◌*ℤ◌, ◌≤ℤ◌, ◌<ℤ◌, Option, Some, to_z, of_z, refl, sym, ap, subst₂, ◌∙◌, arith, MatchBool}
+use Rattle.std.proofs.Common.{◌≡◌, ℕ, suc, ◌<◌, Bool, true, false, ◌==◌, if◌then◌else◌, ℤ, pos, neg_ℤ, ◌-ℤ◌, ◌*ℤ◌, ◌≤ℤ◌, ◌<ℤ◌, Option, Some, to_z, of_z, refl, sym, ap, subst₂, ◌∙◌, arith, MatchBool}
 use Rattle.std.proofs.lemmas.Bool.{eqb-true}
-use Rattle.std.proofs.lemmas.Int.{ints, to_z-of_z, fits_signed_from_abs}
-use Rattle.std.specs.Int.RustNames.{unsigned_abs}
+use Rattle.std.proofs.lemmas.Int.{ints, to_z-of_z}
 use mir.Syntax.{w64, w128}
 use lib.Signed.{lt_z}
-use Rattle.rt_rows.specs.Known.{IsSmall, IsProduct}
-use Rattle.rt_rows.proofs.Products.{small_product}
+use Rattle.rt_rows.specs.Known.{IsSmall}
+use Rattle.rt_rows.proofs.Products.{small_product, product_fits}
 use Rattle.rt_solved.specs.Systems.{columns_of}
 use Rattle.rt_solved.specs.Tables.{IsWhole}
 use Rattle.rt_tableau.specs.States.{State, IsWholeEntry, IsGoalRow}
@@ -16,16 +15,12 @@ use Rattle.rt_simplex.specs.Among.{IsCostBy}
 use Rattle.rt_simplex.proofs.Chosen.{stored, small_stored}
 use Rattle.rt_simplex.proofs.Entering.{column_in}
 
-magnitude_of : (z : ℤ) → IsProduct z → unsigned_abs z ≤ 1000000000000000000000000000000000000
-magnitude_of (pos n) h = omega (arith, ints, h.high)
-magnitude_of (negsuc n) h = omega (arith, ints, h.low)
-
 abbrev wide : ℤ → ℤ
 wide z = to_z w128 (of_z w128 z)
 
 product_is : (a b ra rb : ℤ) → IsSmall a → IsSmall b → ra ≡ to_z w64 (of_z w64 a) → rb ≡ to_z w64 (of_z w64 b) → wide (wide ra *ℤ wide rb) ≡ a *ℤ b
 product_is a b ra rb h g e f =
-    (λ i. wide (wide_read a ra h e i *ℤ wide_read b rb g f i)) ∙ to_z-of_z w128 (a *ℤ b) (fits_signed_from_abs w128 (a *ℤ b) (omega (arith, magnitude_of (a *ℤ b) (small_product a b h g))))
+    (λ i. wide (wide_read a ra h e i *ℤ wide_read b rb g f i)) ∙ to_z-of_z w128 (a *ℤ b) (product_fits (a *ℤ b) (small_product a b h g))
 
 compared : (p q : ℤ) → MatchBool (lt_z p q) (p <ℤ q) (q ≤ℤ p)
 compared p q = by (lt_z p q) refl

@@ -11,3 +11,6 @@ run_further start state next from count spent p q run dual e small f = subst₂ 
 
 pub within_further : (count read limit spent : ℕ) → read ≡ count → read < limit → spent ≡ count + 1 → spent ≤ limit
 within_further count read limit spent e h f = omega (arith, e, h, f)
+
+pub spent_below : (count read limit : ℕ) → read ≡ count → read < limit → count < limit
+spent_below count read limit e h = omega (arith, e, h)

@@ -1,5 +1,5 @@
 -- Runs of the dual simplex method, their ends, and why one stops.
-use Rattle.std.specs.Prelude.{◌≡◌, ℕ, ◌+◌}
+use Rattle.std.specs.Prelude.{◌≡◌, ℕ, ◌+◌, ◌<◌, ◌≤◌, Result, Ok, Err}
 use Rattle.rt_tableau.specs.States.{State, IsSmallTable, PassesFirst, exchanged_state}
 use Rattle.rt_simplex.specs.Choices.{IsOptimum, IsRay, IsDualPivot}
 use Rattle.rt_simplex.specs.declared.answers.End.{End}
@@ -31,9 +31,18 @@ pub record NeedsPivot (state : State) : Type 0 where
   pub q : ℕ
   pub dual : IsDualPivot state p q
 
--- why a run stops before its end: the dual pivot would pass the limit of entries, first at that place, or it's needed and all that may be counted are
+-- why a run stops before its end: the dual pivot could be counted, and would pass the limit of entries, first at that place; or it's needed, and all that
+-- may be counted are
 abbrev pub IsStop : ℕ → State → ℕ → SearchError → Type 0
 IsStop limit state count (Refuted proof) = ⊥
-IsStop limit state count (Overflow basis p q i j) = (basis ≡ state.basis) × IsDualPivot state p q × PassesFirst state p q i j
+IsStop limit state count (Overflow basis p q i j) = (basis ≡ state.basis) × (count < limit) × IsDualPivot state p q × PassesFirst state p q i j
 IsStop limit state count (Budget pivots) = (pivots ≡ limit) × (count ≡ limit) × NeedsPivot state
 IsStop limit state count OutOfMemory = Unit {0}
+
+-- what a run comes to within a limit: an end, or a stop that the rows ask for. Want of memory isn't one
+abbrev pub IsOutcome : ℕ → State → ℕ → Result End SearchError → Type 0
+IsOutcome limit state count (Ok end) = (count ≤ limit) × IsEnd state end
+IsOutcome limit state count (Err (Refuted proof)) = ⊥
+IsOutcome limit state count (Err (Overflow basis p q i j)) = IsStop limit state count (Overflow basis p q i j)
+IsOutcome limit state count (Err (Budget pivots)) = IsStop limit state count (Budget pivots)
+IsOutcome limit state count (Err OutOfMemory) = ⊥

@@ -12,6 +12,7 @@ mod values;
 pub use answers::{Bound, End, SearchError};
 pub use bounding::bound;
 pub use laws::{
-    ends_exclude, optimum_is_least, pivots_keep_feasible, ray_has_no_point, start_is_feasible,
+    added_rows_keep_feasible, ends_exclude, one_outcome, optimum_is_least, pivots_keep_feasible,
+    ray_has_no_point, runs_are_one, start_is_feasible,
 };
 pub use run::run_dual;

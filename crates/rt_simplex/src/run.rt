@@ -25,7 +25,7 @@ fn advance(
     ensures counted { OnOk result (pivots.new ≡ pivots.old + 1) }
     ensures table { OnErr result (table.new ≡ table.old) }
     ensures ledger { OnErr result (pivots.new ≡ pivots.old) }
-    ensures stopped { (limit : ℕ) → IfErr result (IsStop limit table.new pivots.new) }
+    ensures stopped { (limit : ℕ) → pivots.old < limit → IfErr result (IsStop limit table.new pivots.new) }
 {
     match table.pivot(alloc, p, q, pivots) {
         Ok(()) => Ok(()),
@@ -38,8 +38,8 @@ fn advance(
 
 /// Makes dual pivots, until the table is an optimum or a ray, and counts them. In a dual pivot the row is the one whose basic column is the least
 /// among the rows with a right side below 0. The column is the least of those in which a cost over the magnitude of an entry below 0 is least.
-/// Overflow exactly where the next of these pivots would make a whole entry past a magnitude of 10^18, with the first such place by rows. Budget
-/// exactly where a pivot is needed and the ledger stands at the limit. After a refusal the table is as the last pivot made it. (After the dual
+/// Overflow exactly where the next of these pivots would make a whole entry past a magnitude of 10^18 and the ledger is below the limit, with the
+/// first such place by rows. Budget exactly where a pivot is needed and the ledger stands at the limit. After a refusal the table is as the last pivot made it. (After the dual
 /// simplex method of linear programming, with the least index among equals.)
 pub fn run_dual(
     alloc: Global,

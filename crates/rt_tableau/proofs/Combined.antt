@@ -5,23 +5,15 @@ use Rattle.std.proofs.Math.Seq.{get_or-append_seam}
 use Rattle.std.proofs.lemmas.Bool.{cases_lt}
 use Rattle.std.proofs.lemmas.Int.{ints, to_z-of_z, fits_signed_from_abs}
 use Rattle.std.proofs.lemmas.List.{get_or_append_left}
-use Rattle.std.specs.Int.RustNames.{unsigned_abs}
 use mir.Syntax.{w64, w128}
 use Rattle.rt_rows.specs.Known.{IsSmall, IsProduct}
-use Rattle.rt_rows.proofs.Products.{small_product, small_fits_64}
+use Rattle.rt_rows.proofs.Products.{small_product, product_fits, small_fits_64}
 use Rattle.rt_solved.proofs.Totals.{sign_out}
 use Rattle.rt_tableau.specs.Numbers.{number_of, AreSmall, IsWide, combined_at, AreCombined}
 use Rattle.rt_tableau.proofs.Quotients.{wide_stored}
 
 abbrev pub stored : ℤ → ℤ
 stored z = to_z w128 (of_z w128 z)
-
-magnitude_of : (z : ℤ) → IsProduct z → unsigned_abs z ≤ 1000000000000000000000000000000000000
-magnitude_of (pos n) h = omega (arith, ints, h.high)
-magnitude_of (negsuc n) h = omega (arith, ints, h.low)
-
-product_fits : (z : ℤ) → IsProduct z → FitsSigned w128 z
-product_fits z h = fits_signed_from_abs w128 z (omega (arith, magnitude_of z h))
 
 pub small_fits : (z : ℤ) → IsSmall z → FitsSigned w128 z
 small_fits (pos n) h = record { sfits = omega (arith, ints, h.high) }

@@ -1,6 +1,6 @@
 use Rattle.std.proofs.lemmas.Result.{err_from_is_err_and}
 use Rattle.rt_simplex.specs.Runs.IsRun.{none}
-use Rattle.rt_simplex.proofs.Turns.{run_further, within_further}
+use Rattle.rt_simplex.proofs.Turns.{run_further, within_further, spent_below}
 use Rattle.rt_simplex.proofs.run.run_dual.Goals as goal
 
 pub loop-alloc-init : goal.loop-alloc-init
@@ -16,4 +16,5 @@ loop-alloc-preserved c = (
 pub returns-in_err-advance-in-Pivot-clause-stopped : goal.returns-in_err-advance-in-Pivot-clause-stopped
 returns-in_err-advance-in-Pivot-clause-stopped c =
     let p = err_from_is_err_and c.from_residual.result c.from_residual.ensures.1 in
-    rw (p.1, p.2) (c.in_err-advance-in-Pivot.ensures.stopped c.args.limit)
+    let below = spent_below c.loop-alloc.pivots c.count.result c.args.limit c.count.ensures c.loop-alloc-test.true in
+    rw (p.1, p.2) (c.in_err-advance-in-Pivot.ensures.stopped c.args.limit below)

@@ -1,0 +1,6 @@
+pub mod Values
+pub mod Branches
+pub mod Searches
+pub mod Trails
+pub mod Wholes
+pub mod Laws
