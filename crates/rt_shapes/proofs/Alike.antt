@@ -27,9 +27,8 @@ use Rattle.rt_nets.specs.declared.shapes.NetError.TheVariants.{SourceShape, OutO
 use Rattle.rt_nets.specs.declared.shapes.Shape.{Shape}
 use Rattle.rt_nets.specs.declared.shapes.Shape.TheVariants.{CutShape, CutUpper, CutLower, Background, BentChannel, NoKind, TapChannel, StrayLabel}
 use Rattle.rt_shapes.specs.Shapes.{IsWiring, LiesInOne, Touches, IsAroundPiece, HasNo, ShowsShape, HasSoundShapes, IsRefusal, shapes_in_order}
-use Rattle.rt_shapes.specs.Cutting.{cells_by}
+use Rattle.rt_shapes.specs.Cutting.{cells_by, AreOfMasks}
 use Rattle.rt_shapes.specs.Lowers.{AreLowersOf}
-use Rattle.rt_shapes.specs.Sound.{AreOfMasks}
 
 module _ (P Q : ℤ → ℤ → Type 0) (alike : AreAlike P Q) where
   back : AreAlike Q P
@@ -75,7 +74,7 @@ module _ (tech : Tech) (labels : List Label) (P Q : ℕ → ℤ → ℤ → Type
   turn : (m : ℕ) → AreAlike (Q m) (P m)
   turn m = alike_back (P m) (Q m) (alike m)
 
-  has_no_alike : (shape : Shape) → HasNo tech P labels shape → HasNo tech Q labels shape
+  pub has_no_alike : (shape : Shape) → HasNo tech P labels shape → HasNo tech Q labels shape
   has_no_alike CutShape h = record {
     shaped = λ m cut x y c.
         let (r, at) = h.shaped m cut x y ((alike m).from x y c) in
@@ -95,7 +94,7 @@ module _ (tech : Tech) (labels : List Label) (P Q : ℕ → ℤ → ℤ → Type
   has_no_alike NoKind h = h
   has_no_alike TapChannel h = h
 
-  shows_alike : (shape : Shape) (rect : Rect) → ShowsShape tech P labels shape rect → ShowsShape tech Q labels shape rect
+  pub shows_alike : (shape : Shape) (rect : Rect) → ShowsShape tech P labels shape rect → ShowsShape tech Q labels shape rect
   shows_alike CutShape rect s = record {
     cut = s.cut;
     x = s.x;

@@ -150,10 +150,6 @@ none_bent tech strips seams are none = record {
       });
 }
 
--- a rectangle and the least one around it and another
-pub inside_itself : (r : Rectangle) → IsInside r r
-inside_itself r = record { left = omega (arith, ints); right = omega (arith, ints); bottom = omega (arith, ints); top = omega (arith, ints) }
-
 module _ (a b r : Rectangle) (left : r.left ≡ int_min a.left b.left) (right : r.right ≡ int_max a.right b.right)
     (bottom : r.bottom ≡ int_min a.bottom b.bottom) (top : r.top ≡ int_max a.top b.top) where
   inside_first : (q : Rectangle) → IsInside q a → IsInside q r

@@ -1,6 +1,10 @@
 -- cuts by their strips
 pub mod Cutting
 pub mod UpperLower
+pub mod Boxing
+pub mod Telling
 -- cells that are the same, and laws of the shapes
 pub mod Alike
 pub mod First
+pub mod Found
+pub mod Touched

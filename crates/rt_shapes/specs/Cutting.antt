@@ -1,12 +1,16 @@
 -- The shapes of cuts by their strips.
-use Rattle.std.specs.Prelude.{◌≡◌, ℕ, ◌<◌, ℤ, ◌≤ℤ◌, List, [], length, slice_index, slice_index_or, Option, MatchOption}
+use Rattle.std.specs.Prelude.{◌≡◌, ℕ, ◌<◌, ℤ, ◌≤ℤ◌, List, [], length, slice_index, slice_index_or, Option, Some, MatchOption}
 use Rattle.rt_cells.specs.Rectangles.{Rectangle}
 use Rattle.rt_base.specs.declared.plane.Cell.{Cell}
+use Rattle.rt_tech.specs.declared.table.Mask.{Mask}
+use Rattle.rt_tech.specs.declared.table.Role.TheVariants.{Cut}
 use Rattle.rt_tech.specs.declared.table.Tech.{Tech}
+use Rattle.rt_tech.specs.Tech.{mask_at}
 use Rattle.rt_family.specs.Strips.{CoveredBy}
 use Rattle.rt_strips.specs.declared.contact.Seam.{Seam}
 use Rattle.rt_strips.specs.declared.listing.Strip.{Strip}
 use Rattle.rt_strips.specs.Placed.{Placed, mask_of}
+use Rattle.rt_strips.specs.Standing.{IsStrip}
 use Rattle.rt_cover.specs.Covering.{IsWhole, IsMissing, found_at}
 use Rattle.rt_pieces.specs.Members.{IsOf, box_of}
 use Rattle.rt_pieces.specs.Numbering.{AreNumbersOfPieces, Stands}
@@ -67,3 +71,12 @@ pub record AreBareCells (strips : List Placed) (masks : ℕ) (table : List (List
   pub rows : (l : ℕ) → l < masks → length (slice_index_or table l []) ≡ length strips
   pub each : (l i : ℕ) → l < masks → i < length strips
       → MatchOption (bare_at table l i) (IsWhole (cells_by strips l) (box_of strips i)) (IsMissing (cells_by strips l) (box_of strips i))
+
+-- each strip is of one of the first masks: none is a channel
+pub record AreOfMasks (masks : ℕ) (strips : List Placed) : Type 0 where
+  pub each : (i : ℕ) → IsStrip strips i → mask_of strips i < masks
+
+-- mask m of the table is this cut
+pub record IsCutAt (tech : Tech) (m : ℕ) (mask : Mask) : Type 0 where
+  pub there : mask_at tech m ≡ Some mask
+  pub of_role : mask.role ≡ Cut

@@ -5,3 +5,5 @@ pub mod Lowers
 pub mod Cutting
 pub mod Sides
 pub mod Sound
+-- labels by the strips that touch them
+pub mod Touching

@@ -164,6 +164,22 @@ module _ (tech : Tech) (cells : ℕ → ℤ → ℤ → Type 0) (labels : List L
 abbrev pub IsShapeErrorOf : Layout → Tech → NetError → Type 0
 IsShapeErrorOf layout tech = IsRefusal tech (MaskCovers layout) layout.labels
 
+-- the three shapes of cuts are those of a sound source
+pub record HasSoundCuts (tech : Tech) (cells : ℕ → ℤ → ℤ → Type 0) : Type 0 where
+  pub rectangles : CutsAreRectangles tech cells
+  pub in_upper : CutsLieInUpper tech cells
+  pub in_one_lower : CutsLieInOneLower tech cells
+
+-- the first shape that is found is one of cuts
+pub record IsFirstOfCuts (tech : Tech) (cells : ℕ → ℤ → ℤ → Type 0) (labels : List Label) (shape : Shape) (rect : Rect) : Type 0 where
+  pub of_cuts : Contains (CutShape ∷ CutUpper ∷ CutLower ∷ []) shape
+  pub first : IsFirstShape tech cells labels shape rect
+
+-- what a refusal of the cuts of a layout says
+abbrev pub IsCutErrorOf : Layout → Tech → NetError → Type 0
+IsCutErrorOf layout tech (SourceShape shape rect) = IsFirstOfCuts tech (MaskCovers layout) layout.labels shape rect
+IsCutErrorOf layout tech OutOfMemory = Unit {0}
+
 -- a first shape is never found in a layout whose shapes are sound
 abbrev pub FirstShapeIsUnsound : Type 0
 FirstShapeIsUnsound = (tech : Tech) (layout : Layout) (shape : Shape) (rect : Rect)

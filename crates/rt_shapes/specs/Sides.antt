@@ -1,5 +1,7 @@
 -- Strips of cuts in their upper and lower masks.
-use Rattle.std.specs.Prelude.{◌≡◌, ℕ, List, length, slice_index, Contains}
+use Rattle.std.specs.Prelude.{◌≡◌, ℕ, List, length, slice_index, Contains, Option}
+use Rattle.rt_cells.specs.Rectangles.{IsNonempty}
+use Rattle.rt_base.specs.declared.plane.Cell.{Cell}
 use Rattle.rt_base.specs.Plane.{area}
 use Rattle.rt_tech.specs.declared.table.Tech.{Tech}
 use Rattle.rt_strips.specs.Placed.{Placed, mask_of}
@@ -10,7 +12,7 @@ use Rattle.rt_nets.specs.declared.shapes.NetError.{NetError}
 use Rattle.rt_nets.specs.declared.shapes.NetError.TheVariants.{SourceShape, OutOfMemory}
 use Rattle.rt_nets.specs.declared.shapes.Shape.TheVariants.{CutLower}
 use Rattle.rt_shapes.specs.Shapes.{IsCut, IsUpper, IsLower}
-use Rattle.rt_shapes.specs.Cutting.{cells_by}
+use Rattle.rt_shapes.specs.Cutting.{cells_by, AreOfMasks, AreBareCells}
 
 -- the mask covers strip i whole
 abbrev pub CoversStrip : List Placed → ℕ → ℕ → Type 0
@@ -72,3 +74,9 @@ pub record IsAlone (strips : List Placed) (i : ℕ) (masks : List ℕ) (l : ℕ)
 pub record IsOnlyOne (strips : List Placed) (i : ℕ) (masks : List ℕ) (l : ℕ) : Type 0 where
   pub one : IsOneOf strips i masks l
   pub alone : IsAlone strips i masks l
+
+-- a table tells of each of its masks which strips it covers; each strip is of one of these masks, and has a cell
+pub record IsBareTable (strips : List Placed) (table : List (List (Option Cell))) : Type 0 where
+  pub cells : AreBareCells strips (length table) table
+  pub of_masks : AreOfMasks (length table) strips
+  pub nonempty : (i : ℕ) → IsStrip strips i → IsNonempty (box_of strips i)
