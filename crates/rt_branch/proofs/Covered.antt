@@ -91,7 +91,7 @@ last_there strips true true = omega arith
 last_there strips false true = omega arith
 last_there strips upwards false = omega arith
 
-variable_there : (strips : ℕ) (upwards : Bool) (j : ℕ) → HasColumn strips (variable_of strips upwards j)
+pub variable_there : (strips : ℕ) (upwards : Bool) (j : ℕ) → HasColumn strips (variable_of strips upwards j)
 variable_there strips upwards j = record { below = by_test (nat_lt j (2 * strips)) refl }
   where
     by_test : (b : Bool) → nat_lt j (2 * strips) ≡ b
@@ -100,12 +100,12 @@ variable_there strips upwards j = record { below = by_test (nat_lt j (2 * strips
     by_test false e = last_there strips upwards (j == (2 * strips))
 
 -- a node of the root's search: no column costs less than 0, each row has a basic column, and the goal is the root's
-record IsNodeOf (root node : State) : Type 0 where
-  feasible : IsDualFeasible node
-  one_each : length node.basis ≡ length node.system.rows
-  goal : goal_of node ≡ goal_of root
+pub record IsNodeOf (root node : State) : Type 0 where
+  pub feasible : IsDualFeasible node
+  pub one_each : length node.basis ≡ length node.system.rows
+  pub goal : goal_of node ≡ goal_of root
 
-AreNodesOf : State → List State → Type 0
+unfoldable pub AreNodesOf : State → List State → Type 0
 AreNodesOf root [] = Unit {0}
 AreNodesOf root (node ∷ rest) = IsNodeOf root node × AreNodesOf root rest
 
@@ -136,7 +136,7 @@ added_node root node row term only there is = record {
   goal = is.goal;
 }
 
-nodes_after : (root : State) (best : Option Best) (node : State) (rest : List State) (made : ℕ) (move : Move) → IsMove best node move → AreNodesOf root (node ∷ rest) → AreNodesOf root (after best node rest made move).nodes
+pub nodes_after : (root : State) (best : Option Best) (node : State) (rest : List State) (made : ℕ) (move : Move) → IsMove best node move → AreNodesOf root (node ∷ rest) → AreNodesOf root (after best node rest made move).nodes
 unfolding AreNodesOf
 nodes_after root best node rest made (Pivot p q) moves (is, others) =
     (record { feasible = kept_by_pivot node p q is.feasible moves.0; one_each = length-set node.basis p q ∙ is.one_each; goal = is.goal }, others)

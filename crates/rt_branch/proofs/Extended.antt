@@ -18,14 +18,14 @@ use Rattle.rt_simplex.specs.Points.{IsPoint}
 use Rattle.rt_simplex.proofs.Multipliers.{sum_same}
 
 -- the point with another number in one place
-with_own : ℕ → (ℕ → ℤ) → ℤ → ℕ → ℤ
+pub with_own : ℕ → (ℕ → ℤ) → ℤ → ℕ → ℤ
 with_own own y a s = if s == own then a else y s
 
-own_there : (own : ℕ) (y : ℕ → ℤ) (a : ℤ) → with_own own y a own ≡ a
+pub own_there : (own : ℕ) (y : ℕ → ℤ) (a : ℤ) → with_own own y a own ≡ a
 unfolding with_own
 own_there own y a = rw (eq-eqb own own refl) refl
 
-others_there : (own : ℕ) (y : ℕ → ℤ) (a : ℤ) (s : ℕ) → (s ≡ own → ⊥) → with_own own y a s ≡ y s
+pub others_there : (own : ℕ) (y : ℕ → ℤ) (a : ℤ) (s : ℕ) → (s ≡ own → ⊥) → with_own own y a s ≡ y s
 unfolding with_own
 others_there own y a s n = by_test (s == own) refl
   where

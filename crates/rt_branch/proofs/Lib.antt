@@ -5,3 +5,9 @@ pub mod Variables
 pub mod GoingBack
 pub mod Extended
 pub mod Covered
+pub mod Grown
+pub mod WholePoints
+pub mod Attained
+pub mod TheLeast
+pub mod Addable
+pub mod Closing

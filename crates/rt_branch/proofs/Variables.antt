@@ -45,7 +45,7 @@ variable_column strips upwards j g = by_test (nat_lt j (2 * strips)) refl
     by_test false e = last_column strips upwards j (j == (2 * strips)) refl (ltb-false j (2 * strips) e) g
 
 -- a column that isn't whole is basic
-broken_basic : (state : State) (j : ℕ) (n right over : ℤ) → IsValue state j right over → (n *ℤ over) <ℤ right → right <ℤ ((n +ℤ pos 1) *ℤ over) → IsBasicValue state j right over
+pub broken_basic : (state : State) (j : ℕ) (n right over : ℤ) → IsValue state j right over → (n *ℤ over) <ℤ right → right <ℤ ((n +ℤ pos 1) *ℤ over) → IsBasicValue state j right over
 broken_basic state j n right over (inl basic) from to = basic
 broken_basic state j n right over (inr free) from to = absurd (clash n right over free.right_is free.over_is from to)
   where

@@ -1,14 +1,17 @@
 -- What holds of searches.
-use Rattle.std.specs.Prelude.{◌≡◌, ℕ, ◌⊎◌, ℤ, pos, ◌+ℤ◌, List, [], ◌∷◌, ◌++◌, length, Option, Result}
+use Rattle.std.specs.Prelude.{◌≡◌, ℕ, ◌⊎◌, ℤ, pos, ◌+ℤ◌, List, [], ◌∷◌, ◌++◌, length, Option, Some, Result}
 use Rattle.rt_rows.specs.Rows.{at_most, at_least}
 use Rattle.rt_tableau.specs.States.{State, IsSmallTable}
-use Rattle.rt_tableau.specs.Added.{IsBranch}
+use Rattle.rt_tableau.specs.Added.{IsAddable, IsBranch}
+use Rattle.rt_tableau.specs.Starts.{HasColumn}
 use Rattle.rt_simplex.specs.Feasible.{IsDualFeasible}
 use Rattle.rt_simplex.specs.declared.answers.SearchError.{SearchError}
+use Rattle.rt_simplex.specs.Shares.{HasTable}
 use Rattle.rt_branch.specs.Values.{IsFirstBroken}
 use Rattle.rt_branch.specs.Branches.{variable_at}
 use Rattle.rt_branch.specs.Searches.{Best, Place, Move, IsMove, IsSearch, IsEnding, start_at}
-use Rattle.rt_branch.specs.Wholes.{IsLeastOf}
+use Rattle.rt_branch.specs.Closed.{IsClosed}
+use Rattle.rt_branch.specs.Wholes.{IsLeastOf, IsAttained, IsTheLeast}
 use Rattle.rt_branch.specs.Trails.{Change, LedTo, undone_state, CanUndo}
 
 -- with a node one thing is done
@@ -28,6 +31,11 @@ OneEnding = (start at other : Place) (limit : ℕ) (ending second : Result (Opti
 abbrev pub RowsAreBranches : Type 0
 RowsAreBranches = (node : State) (j : ℕ) (n : ℤ) → IsFirstBroken node j n → IsBranch node (at_most (variable_at node j) n) × IsBranch node (at_least (variable_at node j) (n +ℤ pos 1))
 
+-- where the node's entries are small they say that a variable is at most or at least a small number, as a tableau asks of a row that is added
+abbrev pub BranchesAreAddable : Type 0
+BranchesAreAddable = (node : State) (j : ℕ) (n : ℤ) → IsSmallTable node → IsFirstBroken node j n
+    → IsAddable node.system.strips (at_most (variable_at node j) n) × IsAddable node.system.strips (at_least (variable_at node j) (n +ℤ pos 1))
+
 -- the latest change of a trail can be undone, with small entries; what's left is the trail of the state before
 abbrev pub ChangesAreUndone : Type 0
 ChangesAreUndone = (change : Change) (changes : List Change) (earlier state : State) → LedTo (change ∷ changes) earlier state
@@ -41,3 +49,16 @@ TrailsJoin = (later older : List Change) (earlier middle state : State) → LedT
 -- there is no best none meet them
 abbrev pub BestIsLeast : Type 0
 BestIsLeast = (root : State) (from : ℕ) (at : Place) → length root.basis ≡ length root.system.rows → IsDualFeasible root → IsSearch (start_at root from) at → at.nodes ≡ [] → IsLeastOf root at.best
+
+-- where no column costs less than 0 at the root, whose rows are solved for its basis, the best positions are those of a whole point that meets the root's rows
+abbrev pub BestIsAttained : Type 0
+BestIsAttained = (root : State) (from : ℕ) (at : Place) (best : Best) → length root.basis ≡ length root.system.rows → HasTable root → IsDualFeasible root → IsSearch (start_at root from) at → at.best ≡ Some best → IsAttained root best
+
+-- from a root whose rows are solved for its basis, where no column costs less than 0: where no node is open any more, the best positions meet the root's rows,
+-- and no whole positions that meet them have a lesser extent; where there is no best, no whole positions meet them
+abbrev pub BestIsTheLeast : Type 0
+BestIsTheLeast = (root : State) (from : ℕ) (at : Place) → length root.basis ≡ length root.system.rows → HasTable root → IsDualFeasible root → IsSearch (start_at root from) at → at.nodes ≡ [] → IsTheLeast root at.best
+
+-- where no node is open any more, the best closes the root: by a tree of pivots and branches, each of whose ends is a ray, or an optimum with nothing better
+abbrev pub SearchesClose : Type 0
+SearchesClose = (root : State) (from : ℕ) (at : Place) → HasColumn root.system.strips root.goal → IsSearch (start_at root from) at → at.nodes ≡ [] → IsClosed at.best root
