@@ -15,18 +15,19 @@ use Rattle.rt_simplex.specs.Points.{IsPoint, IsBasisPoint}
 use Rattle.rt_simplex.specs.Feasible.{IsDualFeasible}
 use Rattle.rt_simplex.specs.Shares.{HasTable}
 use Rattle.rt_simplex.proofs.GoalLines.{goal_before}
-use Rattle.rt_simplex.proofs.Multipliers.{sum_same}
+use Rattle.rt_tableau.proofs.Sums.{sum_same, sum_scaled}
 use Rattle.rt_simplex.proofs.BasisPoints.{spare_point, basic_value, optimum_point, IsSpare}
 use Rattle.rt_branch.specs.Values.{IsValue, AreWhole, whole_at}
 use Rattle.rt_branch.specs.Branches.{variable_at}
-use Rattle.rt_branch.specs.Searches.{Best, Place, Move, place, start_at, IsLesser, IsMove, after, IsSearch}
+use Rattle.rt_branch.specs.declared.parts.Best.{Best}
+use Rattle.rt_branch.specs.Searches.{Place, Move, place, start_at, IsLesser, IsMove, after, IsSearch}
 use Rattle.rt_branch.specs.Searches.Move.{Pivot, Ray, Whole, Pruned, Branch}
 use Rattle.rt_branch.specs.Searches.IsSearch.{none, more}
 use Rattle.rt_branch.specs.Wholes.{IsAttained}
 use Rattle.rt_branch.specs.Laws.{BestIsAttained}
 use Rattle.rt_branch.proofs.OneValue.{over_positive}
 use Rattle.rt_branch.proofs.Variables.{rows_are_branches_each}
-use Rattle.rt_branch.proofs.WholePoints.{numbers, sum_scaled, beyond_least, whole_point, first_is, one_positive, variable_is, own_is, split}
+use Rattle.rt_branch.proofs.WholePoints.{numbers, beyond_least, whole_point, first_is, one_positive, variable_is, own_is, split}
 use Rattle.rt_branch.proofs.Covered.{IsNodeOf, AreNodesOf, nodes_after}
 use Rattle.rt_branch.proofs.Grown.{solution_before, grown_table}
 

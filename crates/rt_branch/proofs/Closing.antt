@@ -8,7 +8,8 @@ use Rattle.rt_tableau.specs.States.{State}
 use Rattle.rt_tableau.proofs.StartLines.{column_below}
 use Rattle.rt_simplex.specs.Choices.{goal_of}
 use Rattle.rt_branch.specs.Values.{IsWholeValue, whole_at}
-use Rattle.rt_branch.specs.Searches.{Best, Place, Move, place, start_at, IsLesser, IsNoLess, HasNoBetter, IsMove, after, IsSearch}
+use Rattle.rt_branch.specs.declared.parts.Best.{Best}
+use Rattle.rt_branch.specs.Searches.{Place, Move, place, start_at, IsLesser, IsNoLess, HasNoBetter, IsMove, after, IsSearch}
 use Rattle.rt_branch.specs.Searches.Move.{Pivot, Ray, Whole, Pruned, Branch}
 use Rattle.rt_branch.specs.Searches.IsSearch.{none, more}
 use Rattle.rt_branch.specs.Closed.{IsClosed}

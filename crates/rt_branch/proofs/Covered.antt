@@ -15,7 +15,8 @@ use Rattle.rt_tableau.specs.Starts.{HasColumn, strips_with}
 use Rattle.rt_tableau.specs.Added.{added_state}
 use Rattle.rt_simplex.specs.Choices.{IsOptimum, goal_of}
 use Rattle.rt_simplex.specs.Points.{IsPoint}
-use Rattle.rt_simplex.specs.Feasible.{IsDualFeasible, HaveColumns}
+use Rattle.rt_tableau.specs.Starts.{HaveColumns}
+use Rattle.rt_simplex.specs.Feasible.{IsDualFeasible}
 use Rattle.rt_simplex.proofs.Rays.{ray_has_no_point_each}
 use Rattle.rt_simplex.proofs.Kept.{kept_by_pivot}
 use Rattle.rt_simplex.proofs.AddedCosts.{kept_by_row}
@@ -24,7 +25,8 @@ use Rattle.rt_simplex.proofs.Leasts.{least_at_basis}
 use Rattle.rt_simplex.proofs.BasisPoints.{spare_point, basic_value, optimum_point}
 use Rattle.rt_branch.specs.Values.{IsValue, IsWholeValue, whole_at}
 use Rattle.rt_branch.specs.Branches.{is_upwards, low_side, high_side, extent_along, variable_of, variable_at}
-use Rattle.rt_branch.specs.Searches.{Best, Place, Move, place, start_at, IsLesser, IsNoLess, HasNoBetter, IsWholeEnd, IsMove, after, IsSearch}
+use Rattle.rt_branch.specs.declared.parts.Best.{Best}
+use Rattle.rt_branch.specs.Searches.{Place, Move, place, start_at, IsLesser, IsNoLess, HasNoBetter, IsWholeEnd, IsMove, after, IsSearch}
 use Rattle.rt_branch.specs.Searches.Move.{Pivot, Ray, Whole, Pruned, Branch}
 use Rattle.rt_branch.specs.Searches.IsSearch.{none, more}
 use Rattle.rt_branch.specs.Wholes.{IsWholePoint, IsLeastOf}

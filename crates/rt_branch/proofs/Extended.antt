@@ -1,7 +1,7 @@
 -- A point that meets the rows and one more of them, with the added row's own column.
-use Rattle.std.proofs.Common.{◌≡◌, ℕ, suc, ◌<◌, ◌≤◌, ◌⊎◌, Bool, true, false, ◌==◌, if◌then◌else◌, ℤ, pos, ◌+ℤ◌, ◌-ℤ◌, ◌*ℤ◌, ◌≤ℤ◌, ◌<ℤ◌, [], ◌∷◌, ◌++◌, length, Some, None, refl, sym, ap, subst, ◌∙◌, inl, inr, length-append, arith}
+use Rattle.std.proofs.Common.{◌≡◌, ℕ, suc, ◌<◌, ◌≤◌, ◌⊎◌, ℤ, pos, ◌+ℤ◌, ◌-ℤ◌, ◌*ℤ◌, ◌≤ℤ◌, ◌<ℤ◌, [], ◌∷◌, ◌++◌, length, Some, None, sym, ap, subst, ◌∙◌, inl, inr, length-append, arith}
 use Rattle.std.proofs.Math.Seq.{get_or-append_seam}
-use Rattle.std.proofs.lemmas.Bool.{cases_lt, eqb-true, eq-eqb}
+use Rattle.std.proofs.lemmas.Bool.{cases_lt}
 use Rattle.std.proofs.lemmas.Int.{ints}
 use Rattle.std.proofs.lemmas.List.{get_or_append_left}
 use Rattle.rt_rows.specs.declared.row.Term.{Term}
@@ -15,23 +15,7 @@ use Rattle.rt_tableau.specs.Added.{added_state}
 use Rattle.rt_tableau.proofs.StartLines.{column_below}
 use Rattle.rt_simplex.specs.Feasible.{IsDualFeasible}
 use Rattle.rt_simplex.specs.Points.{IsPoint}
-use Rattle.rt_simplex.proofs.Multipliers.{sum_same}
-
--- the point with another number in one place
-pub with_own : ℕ → (ℕ → ℤ) → ℤ → ℕ → ℤ
-with_own own y a s = if s == own then a else y s
-
-pub own_there : (own : ℕ) (y : ℕ → ℤ) (a : ℤ) → with_own own y a own ≡ a
-unfolding with_own
-own_there own y a = rw (eq-eqb own own refl) refl
-
-pub others_there : (own : ℕ) (y : ℕ → ℤ) (a : ℤ) (s : ℕ) → (s ≡ own → ⊥) → with_own own y a s ≡ y s
-unfolding with_own
-others_there own y a s n = by_test (s == own) refl
-  where
-    by_test : (b : Bool) → (s == own) ≡ b → (if b then a else y s) ≡ y s
-    by_test true e = absurd (n (eqb-true s own e))
-    by_test false e = refl
+use Rattle.rt_tableau.proofs.Sums.{with_own, own_there, others_there, sum_same}
 
 module _ (node : State) (row : Row) (term : Term) (only : row.terms ≡ Some term ∷ None ∷ None ∷ []) (there : HasColumn node.system.strips term.var) (feasible : IsDualFeasible node) (y : ℕ → ℤ)
     (meets : IsPoint node.system y) (one : y 0 ≡ pos 1) (enough : row.least ≤ℤ (term.times *ℤ y (suc (column_of node.system.strips term.var)))) where

@@ -11,8 +11,10 @@ use Rattle.rt_solved.proofs.Proportional.{same_or_not}
 use Rattle.rt_solved.proofs.Exchanges.{exchange_solves_each}
 use Rattle.rt_tableau.specs.States.{State, IsNegative, IsSmallTable, exchanged_state}
 use Rattle.rt_tableau.specs.Added.{added_state}
-use Rattle.rt_branch.specs.Trails.{Change, WasExchanged, WasAdded, LedTo, dropped_state, EndsInOwn}
-use Rattle.rt_branch.specs.Trails.Change.{Exchanged, Added}
+use Rattle.rt_tableau.specs.Dropped.{dropped_state, EndsInOwn}
+use Rattle.rt_branch.specs.declared.parts.Change.{Change}
+use Rattle.rt_branch.specs.Trails.{WasExchanged, WasAdded, LedTo}
+use Rattle.rt_branch.specs.declared.parts.Change.TheVariants.{Exchanged, Added}
 use Rattle.rt_branch.specs.Laws.{ChangesAreUndone, TrailsJoin}
 
 -- the exchanged table, with no factor left out

@@ -16,7 +16,7 @@ use Rattle.rt_solved.proofs.Proportional.{times_cancel, same_or_not}
 use Rattle.rt_tableau.specs.States.{State}
 use Rattle.rt_tableau.specs.Added.{IsBranch, added_state}
 use Rattle.rt_simplex.specs.Shares.{HasTable}
-use Rattle.rt_branch.proofs.Extended.{with_own, own_there, others_there}
+use Rattle.rt_tableau.proofs.Sums.{with_own, own_there, others_there}
 
 -- a solution of all rows is one of those before
 pub solution_before : (state : State) (row : Row) (x : ℕ → ℤ) → IsSolution (added_state state row).system x → IsSolution state.system x

@@ -11,3 +11,8 @@ pub mod Attained
 pub mod TheLeast
 pub mod Addable
 pub mod Closing
+pub mod Unmet
+pub mod Undone
+pub mod Standings
+pub mod Pointed
+pub mod Pruning

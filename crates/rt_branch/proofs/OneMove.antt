@@ -7,7 +7,8 @@ use Rattle.rt_tableau.specs.States.{State}
 use Rattle.rt_simplex.specs.Choices.{goal_of}
 use Rattle.rt_simplex.proofs.Determined.{one_leaving, one_pivot, optimum_has_none, optimum_is_no_ray, ray_has_none}
 use Rattle.rt_branch.specs.Values.{IsFirstBroken, AreWhole, whole_at}
-use Rattle.rt_branch.specs.Searches.{Best, IsLesser, IsNoLess, IsLess, HasNoBetter, MayHaveBetter, IsWholeEnd}
+use Rattle.rt_branch.specs.declared.parts.Best.{Best}
+use Rattle.rt_branch.specs.Searches.{IsLesser, IsNoLess, IsLess, HasNoBetter, MayHaveBetter, IsWholeEnd}
 use Rattle.rt_branch.specs.Searches.Move.{Pivot, Ray, Whole, Pruned, Branch}
 use Rattle.rt_branch.specs.Laws.{OneMove}
 use Rattle.rt_branch.proofs.OneValue.{one_value, whole_once, broken_once, whole_not_broken}

@@ -7,7 +7,8 @@ use Rattle.rt_simplex.specs.declared.answers.SearchError.{SearchError}
 use Rattle.rt_simplex.specs.declared.answers.SearchError.TheVariants.{Refuted, Overflow, Budget, OutOfMemory}
 use Rattle.rt_simplex.proofs.Determined.{optimum_has_none, ray_has_none}
 use Rattle.rt_simplex.proofs.OneRun.{within, goes_not_on, one_answer}
-use Rattle.rt_branch.specs.Searches.{Best, Place, Move, place, IsMove, after, IsSearch, IsEnding}
+use Rattle.rt_branch.specs.declared.parts.Best.{Best}
+use Rattle.rt_branch.specs.Searches.{Place, Move, place, IsMove, after, IsSearch, IsEnding}
 use Rattle.rt_branch.specs.Searches.Move.{Pivot, Ray, Whole, Pruned, Branch}
 use Rattle.rt_branch.specs.Searches.IsSearch.{none, more}
 use Rattle.rt_branch.specs.Laws.{SearchesAreOne, OneEnding}

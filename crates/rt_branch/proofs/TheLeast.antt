@@ -4,7 +4,7 @@ use Rattle.rt_tableau.specs.States.{State}
 use Rattle.rt_simplex.specs.Choices.{goal_of}
 use Rattle.rt_simplex.specs.Feasible.{IsDualFeasible}
 use Rattle.rt_simplex.proofs.GoalLines.{goal_before}
-use Rattle.rt_branch.specs.Searches.{Best}
+use Rattle.rt_branch.specs.declared.parts.Best.{Best}
 use Rattle.rt_branch.specs.Wholes.{IsLeastOf, IsAttained, IsTheLeast}
 use Rattle.rt_branch.specs.Laws.{BestIsTheLeast}
 use Rattle.rt_branch.proofs.WholePoints.{whole_point, variable_is, numbers_meet, point_meets}

@@ -1,14 +1,11 @@
 -- Whole numbers that meet rows as points, with the rows' own columns.
-use Rattle.std.proofs.Common.{◌≡◌, ℕ, zero, suc, ◌-◌, ◌<◌, Bool, true, false, nat_lt, if◌then◌else◌, ℤ, pos, ◌+ℤ◌, ◌-ℤ◌, ◌*ℤ◌, ◌≤ℤ◌, ◌<ℤ◌, List, [], ◌∷◌, length, Option, Some, None, refl, sym, ap, subst, ◌∙◌, inl, inr, arith}
+use Rattle.std.proofs.Common.{◌≡◌, ℕ, zero, suc, ◌-◌, ◌<◌, Bool, true, false, nat_lt, if◌then◌else◌, ℤ, pos, ◌+ℤ◌, ◌-ℤ◌, ◌*ℤ◌, ◌≤ℤ◌, ◌<ℤ◌, List, length, refl, sym, ap, subst, inl, inr, arith}
 use Rattle.std.proofs.lemmas.Bool.{cases_lt, ltb-true, ltb-false}
 use Rattle.std.proofs.lemmas.Int.{ints}
-use Rattle.rt_cells.proofs.Times.{times_sum}
-use Rattle.rt_proofs.proofs.Products.{times_comm, times_assoc}
-use Rattle.rt_rows.specs.declared.row.Term.{Term}
 use Rattle.rt_rows.specs.Rows.{sum_of_terms}
 use Rattle.rt_solved.specs.Systems.{System, columns_of, variables_of, column_of, own_column, row_at, IsSplit}
-use Rattle.rt_simplex.specs.Feasible.{HaveColumns}
-use Rattle.rt_simplex.proofs.Multipliers.{sum_same}
+use Rattle.rt_tableau.specs.Starts.{HaveColumns}
+use Rattle.rt_tableau.proofs.Sums.{sum_same}
 use Rattle.rt_branch.specs.Values.{whole_at}
 use Rattle.rt_branch.specs.Wholes.{IsWholePoint, MeetRows}
 
@@ -16,23 +13,6 @@ use Rattle.rt_branch.specs.Wholes.{IsWholePoint, MeetRows}
 abbrev pub numbers : List ℤ → ℕ → ℤ
 numbers at zero = pos 0
 numbers at (suc j) = whole_at at j
-
--- terms at so many times the numbers
-pub sum_scaled : (strips : ℕ) (y : ℤ) (f : ℕ → ℤ) (terms : List (Option Term)) → sum_of_terms (λ var. y *ℤ f (suc (column_of strips var))) terms ≡ y *ℤ sum_of_terms (λ var. f (suc (column_of strips var))) terms
-sum_scaled strips y f [] = none_of y
-  where
-    none_of : (z : ℤ) → pos 0 ≡ z *ℤ pos 0
-    none_of z = omega (arith, ints)
-sum_scaled strips y f (None ∷ terms) = nothing_first y _ _ (sum_scaled strips y f terms)
-  where
-    nothing_first : (y a b : ℤ) → a ≡ y *ℤ b → pos 0 +ℤ a ≡ y *ℤ (pos 0 +ℤ b)
-    nothing_first y a b e = let same : pos 0 +ℤ b ≡ b = omega (arith, ints) in omega (arith, ints, e, ap (λ z. y *ℤ z) same)
-sum_scaled strips y f (Some term ∷ terms) = both y term.times (f (suc (column_of strips term.var))) _ _ (sum_scaled strips y f terms)
-  where
-    both : (y t v a b : ℤ) → a ≡ y *ℤ b → t *ℤ (y *ℤ v) +ℤ a ≡ y *ℤ (t *ℤ v +ℤ b)
-    both y t v a b e =
-        let turn : t *ℤ (y *ℤ v) ≡ y *ℤ (t *ℤ v) = sym (times_assoc t y v) ∙ ap (λ z. z *ℤ v) (times_comm t y) ∙ times_assoc y t v in
-        omega (arith, ints, e, turn, times_sum y (t *ℤ v) b)
 
 -- what the terms of a row have beyond its least value
 abbrev pub beyond_least : System → List ℤ → ℕ → ℤ

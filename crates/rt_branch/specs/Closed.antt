@@ -6,7 +6,8 @@ use Rattle.rt_tableau.specs.Added.{added_state}
 use Rattle.rt_simplex.specs.Choices.{IsOptimum, IsRay, IsDualPivot}
 use Rattle.rt_branch.specs.Values.{IsFirstBroken}
 use Rattle.rt_branch.specs.Branches.{variable_at}
-use Rattle.rt_branch.specs.Searches.{Best, HasNoBetter}
+use Rattle.rt_branch.specs.declared.parts.Best.{Best}
+use Rattle.rt_branch.specs.Searches.{HasNoBetter}
 
 -- the node is closed: it's a ray, or an optimum with nothing better than the best, or what it is exchanged to is closed, or both nodes of its branch are
 pub data IsClosed (best : Option Best) : State → Type 0 where

@@ -9,10 +9,12 @@ use Rattle.rt_simplex.specs.declared.answers.SearchError.{SearchError}
 use Rattle.rt_simplex.specs.Shares.{HasTable}
 use Rattle.rt_branch.specs.Values.{IsFirstBroken}
 use Rattle.rt_branch.specs.Branches.{variable_at}
-use Rattle.rt_branch.specs.Searches.{Best, Place, Move, IsMove, IsSearch, IsEnding, start_at}
+use Rattle.rt_branch.specs.declared.parts.Best.{Best}
+use Rattle.rt_branch.specs.Searches.{Place, Move, IsMove, IsSearch, IsEnding, start_at}
 use Rattle.rt_branch.specs.Closed.{IsClosed}
 use Rattle.rt_branch.specs.Wholes.{IsLeastOf, IsAttained, IsTheLeast}
-use Rattle.rt_branch.specs.Trails.{Change, LedTo, undone_state, CanUndo}
+use Rattle.rt_branch.specs.declared.parts.Change.{Change}
+use Rattle.rt_branch.specs.Trails.{LedTo, undone_state, CanUndo}
 
 -- with a node one thing is done
 abbrev pub OneMove : Type 0

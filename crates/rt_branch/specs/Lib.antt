@@ -5,3 +5,5 @@ pub mod Trails
 pub mod Wholes
 pub mod Closed
 pub mod Laws
+pub mod Ends
+pub mod Going

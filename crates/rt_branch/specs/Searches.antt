@@ -6,13 +6,9 @@ use Rattle.rt_tableau.specs.Added.{added_state}
 use Rattle.rt_simplex.specs.Choices.{IsOptimum, IsRay, IsDualPivot, goal_of}
 use Rattle.rt_simplex.specs.Runs.{IsOutcome}
 use Rattle.rt_simplex.specs.declared.answers.SearchError.{SearchError}
+use Rattle.rt_branch.specs.declared.parts.Best.{Best}
 use Rattle.rt_branch.specs.Values.{IsValue, IsFirstBroken, AreWhole, whole_at}
 use Rattle.rt_branch.specs.Branches.{variable_at}
-
--- whole positions: what the goal is worth at them, and all variables in the order of their columns
-pub record Best : Type 0 where
-  pub extent : ℤ
-  pub at : List ℤ
 
 -- a place of a search: the best positions so far, the open nodes, of which the first is taken next, and how many pivots are counted
 pub record Place : Type 0 where

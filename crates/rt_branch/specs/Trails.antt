@@ -1,17 +1,12 @@
 -- Trails: what was done to the one table of a search, so that it can go back to an earlier node.
-use Rattle.std.specs.Prelude.{◌≡◌, ℕ, suc, ◌-◌, List, [], ◌∷◌, length, take}
+use Rattle.std.specs.Prelude.{◌≡◌, ℕ, List, [], ◌∷◌, length}
 use Rattle.rt_rows.specs.declared.row.Row.{Row}
-use Rattle.rt_solved.specs.Systems.{own_column}
 use Rattle.rt_solved.specs.Tables.{basic_of}
 use Rattle.rt_tableau.specs.States.{State, IsNegative, IsSmallTable, exchanged_state}
 use Rattle.rt_tableau.specs.Added.{added_state}
-
--- what was done to a table
-pub data Change : Type 0 where
-  -- another column was made basic in that row, in which that column was basic
-  Exchanged : ℕ → ℕ → Change
-  -- a row was added
-  Added : Change
+use Rattle.rt_tableau.specs.Dropped.{dropped_state, EndsInOwn}
+use Rattle.rt_branch.specs.declared.parts.Change.{Change}
+use Rattle.rt_branch.specs.declared.parts.Change.TheVariants.{Exchanged, Added}
 
 -- the state before had that column basic in row p, and another column was made basic there
 pub record WasExchanged (p column : ℕ) (before state : State) : Type 0 where
@@ -35,25 +30,10 @@ LedTo [] earlier state = earlier ≡ state
 LedTo (Exchanged p column ∷ changes) earlier state = (before : State) × WasExchanged p column before state × LedTo changes earlier before
 LedTo (Added ∷ changes) earlier state = (before : State) × WasAdded before state × LedTo changes earlier before
 
--- the state without its last row
-abbrev pub dropped_state : State → State
-dropped_state state = record {
-  system = record { strips = state.system.strips; rows = take (length state.system.rows - 1) state.system.rows };
-  goal = state.goal;
-  basis = take (length state.basis - 1) state.basis;
-}
-
 -- the state with the change undone: the column is made basic again, or the last row is dropped
 abbrev pub undone_state : State → Change → State
 undone_state state (Exchanged p column) = exchanged_state state p column
 undone_state state Added = dropped_state state
-
--- in the last row its own column is basic
-pub record EndsInOwn (state : State) : Type 0 where
-  pub last : ℕ
-  pub rows : length state.system.rows ≡ suc last
-  pub one_each : length state.basis ≡ suc last
-  pub own : basic_of state.basis last ≡ own_column state.system last
 
 -- the change can be undone: the row has an entry below 0 in the column, or the last row may be dropped
 abbrev pub CanUndo : State → Change → Type 0

@@ -6,7 +6,7 @@ use Rattle.rt_tableau.specs.States.{State}
 use Rattle.rt_simplex.specs.Choices.{goal_of}
 use Rattle.rt_simplex.specs.Points.{IsPoint}
 use Rattle.rt_branch.specs.Values.{whole_at}
-use Rattle.rt_branch.specs.Searches.{Best}
+use Rattle.rt_branch.specs.declared.parts.Best.{Best}
 
 -- a point of whole numbers that meets the rows
 pub record IsWholePoint (system : System) (point : ℕ → ℤ) : Type 0 where

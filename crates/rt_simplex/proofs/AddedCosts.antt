@@ -14,7 +14,8 @@ use Rattle.rt_solved.proofs.Proportional.{same_or_not}
 use Rattle.rt_tableau.specs.States.{State}
 use Rattle.rt_tableau.specs.Added.{added_state}
 use Rattle.rt_simplex.specs.Choices.{goal_of}
-use Rattle.rt_simplex.specs.Feasible.{IsDualFeasible, HaveColumns}
+use Rattle.rt_tableau.specs.Starts.{HaveColumns}
+use Rattle.rt_simplex.specs.Feasible.{IsDualFeasible}
 use Rattle.rt_simplex.specs.Laws.{AddedRowsKeepFeasible}
 
 -- the costs with the added row's own column, which costs nothing

@@ -11,7 +11,8 @@ use Rattle.rt_solved.specs.Lines.{total, worth}
 use Rattle.rt_solved.specs.Systems.{System, IsSolution, column_of, columns_of, variables_of, own_column, row_at}
 use Rattle.rt_solved.proofs.Totals.{total_same, unit, unit_there, unit_elsewhere, total_unit}
 use Rattle.rt_tableau.proofs.StartLines.{column_below}
-use Rattle.rt_simplex.specs.Feasible.{HaveColumns}
+use Rattle.rt_tableau.specs.Starts.{HaveColumns}
+use Rattle.rt_tableau.proofs.Sums.{sum_same}
 use Rattle.rt_simplex.specs.Combinations.{times_of}
 
 -- so many numbers of the one, and behind them those of the other
@@ -42,14 +43,6 @@ total_split n (suc k) f = let e : n + suc k ≡ suc (n + k) = omega arith in ap 
   where
     regrouped : (a b c d : ℤ) → a ≡ b +ℤ c → a +ℤ d ≡ b +ℤ (c +ℤ d)
     regrouped a b c d e = omega (arith, ints, e)
-
--- the terms at values that are the same at their columns
-pub sum_same : (strips : ℕ) (f g : ℕ → ℤ) (terms : List (Option Term)) → HaveColumns strips terms → ((j : ℕ) → j < 2 * strips + 2 → f (suc j) ≡ g (suc j))
-    → sum_of_terms (λ var. f (suc (column_of strips var))) terms ≡ sum_of_terms (λ var. g (suc (column_of strips var))) terms
-sum_same strips f g [] have same = refl
-sum_same strips f g (None ∷ terms) have same = ap (λ z. pos 0 +ℤ z) (sum_same strips f g terms have same)
-sum_same strips f g (Some term ∷ terms) have same =
-    λ i. term.times *ℤ same (column_of strips term.var) (column_below strips term.var have.0.below) i +ℤ sum_same strips f g terms have.1 same i
 
 -- the terms at 1 in a column and 0 elsewhere
 sum_unit : (strips j : ℕ) (terms : List (Option Term)) → sum_of_terms (λ var. unit (suc j) (suc (column_of strips var))) terms ≡ times_of strips j (terms_of terms)

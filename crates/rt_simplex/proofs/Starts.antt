@@ -11,7 +11,7 @@ use Rattle.rt_tableau.specs.Starts.{strips_of, strips_of_row, strips_of_term, sy
 use Rattle.rt_tableau.proofs.StartLines.{column_below}
 use Rattle.rt_tableau.proofs.Starting.{column_is, row_within}
 use Rattle.rt_simplex.specs.Choices.{goal_of}
-use Rattle.rt_simplex.specs.Feasible.{HaveColumns}
+use Rattle.rt_tableau.specs.Starts.{HaveColumns}
 use Rattle.rt_simplex.specs.Laws.{StartIsFeasible}
 use Rattle.rt_simplex.proofs.GoalLines.{costs_of_line, costs_are, zeros_hold, free_basic}
 

@@ -1,15 +1,8 @@
 -- States in which no column costs less than 0.
-use Rattle.std.specs.Prelude.{ℕ, suc, ◌<◌, ℤ, pos, ◌≤ℤ◌, List, [], ◌∷◌, length, Option, Some, None}
-use Rattle.rt_rows.specs.declared.row.Term.{Term}
+use Rattle.std.specs.Prelude.{ℕ, suc, ◌<◌, ℤ, pos, ◌≤ℤ◌, length}
 use Rattle.rt_solved.specs.Systems.{columns_of, row_at}
 use Rattle.rt_tableau.specs.States.{State, AreCosts}
-use Rattle.rt_tableau.specs.Starts.{HasColumn}
-
--- each variable that the terms name has a column
-abbrev pub HaveColumns : ℕ → List (Option Term) → Type 0
-HaveColumns strips [] = Unit {0}
-HaveColumns strips (None ∷ terms) = HaveColumns strips terms
-HaveColumns strips (Some term ∷ terms) = HasColumn strips term.var × HaveColumns strips terms
+use Rattle.rt_tableau.specs.Starts.{HasColumn, HaveColumns}
 
 -- what the rows and the goal name has columns; and the goal, so many times, is a right side and the sum of costs times columns at each solution, where
 -- basic columns cost nothing and no column costs less than 0

@@ -15,11 +15,18 @@ pub enum End {
     },
 }
 
-// What comes next at a table.
+/// What comes next at a table. (This project's own.)
 #[derive(Clone, Copy, Drop)]
-pub(crate) enum Next {
+pub enum Next {
+    /// A run ends.
     Ended(End),
-    Pivot { p: u32, q: u32 },
+    /// The dual pivot.
+    Pivot {
+        /// The row.
+        p: u32,
+        /// The column that becomes basic in it.
+        q: u32,
+    },
 }
 
 /// Why a search stops. (This project's own.)

@@ -113,8 +113,9 @@ fn next_column(table: &Tableau, p: u32) -> Option<u32>
     found
 }
 
-// What comes next at a table.
-pub(crate) fn next(table: &Tableau) -> Next
+/// What comes next at a table: the dual pivot, an optimum or a ray. (After the dual simplex method of linear programming, with the least index among
+/// equals.)
+pub fn next(table: &Tableau) -> Next
     ensures { IsNext table.now result }
 {
     let Some(p) = next_row(table) else {

@@ -10,8 +10,9 @@ use rt_base::Pivots;
 use rt_tableau::{PivotError, Tableau};
 use std::alloc::Global;
 
-// Makes the dual pivot.
-fn advance(
+/// Makes the dual pivot, and counts it. Overflow as the tableau's pivot tells it; after a refusal the table and the ledger are as before. (After the dual
+/// simplex method of linear programming.)
+pub fn advance(
     alloc: Global,
     table: &mut Tableau,
     p: u32,

@@ -23,7 +23,7 @@ use Rattle.rt_tableau.specs.Numbers.{number_of, HaveNoFactor, IsPast}
 use Rattle.rt_tableau.specs.States.{State}
 use Rattle.rt_tableau.specs.Tables.{line_at, table_of, IsKeptLine, IsKept}
 use Rattle.rt_tableau.specs.Added.{IsAddable, added_state, IsPastAdded, IsWorth, added_right, IsAddedLine, PassesAdded, IsAdded, IsNewRow}
-use Rattle.rt_tableau.proofs.Pivoted.{beyond_none, reduced_numbers}
+use Rattle.rt_tableau.proofs.Pivoted.{reduced_numbers}
 use Rattle.rt_tableau.proofs.StartLines.{zero_of, column_below}
 use Rattle.rt_tableau.proofs.Updated.{there_where_positive}
 use Rattle.rt_tableau.proofs.Combined.{small_read}
@@ -129,19 +129,19 @@ added_no_factor state column least times over rest numbers is unit_times are = r
     each d k all (suc j) =
         elim (cases_lt (suc j) (suc (columns_of state.system))) [
           | inl l ↦ divides_unit d k times (number_of rest (suc j)) unit_times (divides_is d _ _ (ap (λ z. k *ℤ z) (are.others (suc j) (omega arith) l)) (all (suc j)))
-          | inr g ↦ (pos 0, none k d (number_of rest (suc j)) (get_or-eq_default rest (pos 0) (omega (arith, g, is.short))))
+          | inr g ↦ (pos 0, none k d (number_of rest (suc j)) (is.none_behind (suc j) (omega (arith, g))))
         ]
       where
         none : (a b z : ℤ) → z ≡ pos 0 → a *ℤ z ≡ b *ℤ pos 0
         none a b z e = omega (arith, ints, ap (λ y. a *ℤ y) e)
 
-lies_more : (m : ℕ) (line x : ℕ → ℤ) → line (suc m) ≡ pos 0 → LiesOn m line x → LiesOn (suc m) line x
+pub lies_more : (m : ℕ) (line x : ℕ → ℤ) → line (suc m) ≡ pos 0 → LiesOn m line x → LiesOn (suc m) line x
 lies_more m line x e h = record { equal = more _ _ _ _ e h.equal }
   where
     more : (t l y r : ℤ) → l ≡ pos 0 → t ≡ r → t +ℤ l *ℤ y ≡ r
     more t l y r e f = omega (arith, ints, f, ap (λ z. z *ℤ y) e)
 
-lies_less : (m : ℕ) (line x : ℕ → ℤ) → line (suc m) ≡ pos 0 → LiesOn (suc m) line x → LiesOn m line x
+pub lies_less : (m : ℕ) (line x : ℕ → ℤ) → line (suc m) ≡ pos 0 → LiesOn (suc m) line x → LiesOn m line x
 lies_less m line x e h = record { equal = less _ _ _ _ e h.equal }
   where
     less : (t l y r : ℤ) → l ≡ pos 0 → t +ℤ l *ℤ y ≡ r → t ≡ r
@@ -237,10 +237,7 @@ module _ (state : State) (lines : List (List ℤ)) (row : Row) (column : ℕ) (t
       (sol.each (length state.system.rows) (omega (arith, length-append state.system.rows (row ∷ [])))).equal ∙ sum x
 
   no_own : (r : ℕ) → r < length state.system.rows → table_of lines r (suc (columns_of state.system)) ≡ pos 0
-  no_own r h = beyond_none_at r h
-    where
-      beyond_none_at : (r : ℕ) → r < length state.system.rows → table_of lines r (suc (columns_of state.system)) ≡ pos 0
-      beyond_none_at r h = beyond_none (columns_of state.system) (line_at lines r) (kept.each r h).short (suc (columns_of state.system)) (omega arith)
+  no_own r h = (kept.each r h).none_behind (suc (columns_of state.system)) (omega arith)
 
   holds_added : (x : ℕ → ℤ) → IsSolution system' x → (i : ℕ) → i < suc (length state.system.rows) → LiesOn (suc (columns_of state.system)) (extended i) x
   holds_added x sol i h = by_case (cases_lt i (length state.system.rows))
@@ -377,11 +374,11 @@ past_numbers : ℤ → ℤ → ℤ → List ℤ → ℕ → ℕ → ℤ
 past_numbers least times over rest own zero = added_right least times over rest
 past_numbers least times over rest own (suc j) = times *ℤ number_of rest (suc j) +ℤ over *ℤ unit own j
 
-past_are : (own : ℕ) (least times over : ℤ) (rest : List ℤ) → length rest ≤ suc own → AreAdded own least times over rest (past_numbers least times over rest own)
+past_are : (own : ℕ) (least times over : ℤ) (rest : List ℤ) → ((s : ℕ) → suc own ≤ s → number_of rest s ≡ pos 0) → AreAdded own least times over rest (past_numbers least times over rest own)
 unfolding past_numbers
-past_are own least times over rest short = record {
+past_are own least times over rest none_behind = record {
   right = refl;
-  own_is = alone times over _ _ (get_or-eq_default rest (pos 0) (omega (arith, short))) (unit_there own);
+  own_is = alone times over _ _ (none_behind (suc own) (omega arith)) (unit_there own);
   others = λ s h l. other s h l;
   beyond = λ s h. behind s h;
 }
@@ -401,7 +398,7 @@ past_are own least times over rest short = record {
 
     behind : (s : ℕ) → suc own < s → past_numbers least times over rest own s ≡ pos 0
     behind zero h = absurd (omega (arith, h))
-    behind (suc j) h = none times over _ _ (get_or-eq_default rest (pos 0) (omega (arith, short, h))) (unit_elsewhere own j (λ e. omega (arith, h, e)))
+    behind (suc j) h = none times over _ _ (none_behind (suc j) (omega (arith, h))) (unit_elsewhere own j (λ e. omega (arith, h, e)))
 
 one_term : (a b c d : ℤ) → a +ℤ (pos 0 +ℤ (pos 0 +ℤ pos 0)) ≡ a
 one_term a b c d = omega (arith, ints)
@@ -440,19 +437,19 @@ kept_added state lines row fit line few kept is = record {
     fits_more : columns_of state.system + 1 < 4294967296 → columns_of (added_state state row).system < 4294967296
     fits_more h = let e = length-append state.system.rows (row ∷ []) in omega (arith, h, e)
 
-    short_line : length line ≤ suc (columns_of (added_state state row).system)
-    short_line = let e = length-append state.system.rows (row ∷ []) in let l = is.is.long in omega (arith, e, l)
+    none_line : (s : ℕ) → suc (columns_of (added_state state row).system) ≤ s → number_of line s ≡ pos 0
+    none_line s h = get_or-eq_default line (pos 0) (let e = length-append state.system.rows (row ∷ []) in let l = is.is.long in omega (arith, e, l, h))
 
     kept_line : IsKeptLine (suc (columns_of (added_state state row).system)) line
-    kept_line = record { short = short_line; small = is.is.small; reduced = added_no_factor state (column_of state.system.strips fit.term.var) row.least fit.term.times is.over is.rest (number_of line) is.worth_is fit.unit are }
+    kept_line = record { none_behind = none_line; small = is.is.small; reduced = added_no_factor state (column_of state.system.strips fit.term.var) row.least fit.term.times is.over is.rest (number_of line) is.worth_is fit.unit are }
 
-    longer : (i : ℕ) → i < length state.system.rows → length (line_at lines i) ≤ suc (columns_of (added_state state row).system)
-    longer i h = let e = length-append state.system.rows (row ∷ []) in let l = (kept.each i h).short in omega (arith, e, l)
+    further : (i : ℕ) → i < length state.system.rows → (s : ℕ) → suc (columns_of (added_state state row).system) ≤ s → number_of (line_at lines i) s ≡ pos 0
+    further i h s g = (kept.each i h).none_behind s (let e = length-append state.system.rows (row ∷ []) in omega (arith, e, g))
 
     each : (i : ℕ) → i < length state.system.rows + 1 → (i < length state.system.rows) ⊎ (length state.system.rows ≤ i) → IsKeptLine (suc (columns_of (added_state state row).system)) (line_at (lines ++ line ∷ []) i)
     each i h (inl l) =
         subst (IsKeptLine (suc (columns_of (added_state state row).system))) (sym (get_or_append_left lines (line ∷ []) [] i (omega (arith, l, kept.one_each))))
-        (record { short = longer i l; small = (kept.each i l).small; reduced = (kept.each i l).reduced })
+        (record { none_behind = further i l; small = (kept.each i l).small; reduced = (kept.each i l).reduced })
     each i h (inr g) = at_last i (omega (arith, h, g))
       where
         at_last : (i : ℕ) → i ≡ length state.system.rows → IsKeptLine (suc (columns_of (added_state state row).system)) (line_at (lines ++ line ∷ []) i)
@@ -483,7 +480,7 @@ past_added state lines row fit kept is = record {
     sum x = sum_of_one state.system.strips row fit x
 
     are : AreAdded (columns_of state.system) row.least fit.term.times is.over is.rest (past_numbers row.least fit.term.times is.over is.rest (columns_of state.system))
-    are = past_are (columns_of state.system) row.least fit.term.times is.over is.rest is.worth_is.short
+    are = past_are (columns_of state.system) row.least fit.term.times is.over is.rest is.worth_is.none_behind
 
     past : IsPast (past_numbers row.least fit.term.times is.over is.rest (columns_of state.system) 0)
     past = past_at is.past
@@ -512,7 +509,7 @@ past_whole_right state lines row fit kept over rest is passes =
     sum x = sum_of_one state.system.strips row fit x
 
     are : AreAdded (columns_of state.system) row.least fit.term.times over rest numbers
-    are = past_are (columns_of state.system) row.least fit.term.times over rest is.short
+    are = past_are (columns_of state.system) row.least fit.term.times over rest is.none_behind
 
     wider : (s : ℕ) → columns_of (added_state state row).system < s → suc (columns_of state.system) < s
     wider s h = let e = length-append state.system.rows (row ∷ []) in omega (arith, e, h)
@@ -540,7 +537,7 @@ worth_basic state lines column i kept h e = record {
   positive = positive;
   small_over = (kept.each i h).small.each (suc column);
   small = record { each = λ s. small_at s (same_or_not s (suc column)) };
-  short = subst (λ n. n ≤ suc (columns_of state.system)) (sym (length-set (line_at lines i) (suc column) (pos 0))) (kept.each i h).short;
+  none_behind = λ s g. get_or-set_other (line_at lines i) (suc column) s (pos 0) (pos 0) (λ f. omega (arith, f, g, below)) ∙ (kept.each i h).none_behind s g;
   equal = λ x sol. equal x (worth_none (columns_of state.system) (table_of lines i) x (kept.solved.holds x sol i h));
   clear = λ k l. clear k l (same_or_not k i);
   no_factor = λ d k over all. (kept.each i h).reduced.none d k (λ s. divides d k over all s (same_or_not s (suc column)));
@@ -607,7 +604,8 @@ worth_free state lines column kept below free = record {
   positive = omega (arith, ints);
   small_over = record { low = omega (arith, ints); high = omega (arith, ints) };
   small = record { each = λ s. small_at s (same_or_not s (suc column)) };
-  short = long (length-set (replicate (column + 2) (pos 0)) (suc column) (negsuc 0) ∙ length-replicate (column + 2) (pos 0));
+  none_behind = λ s g. get_or-eq_default (set (replicate (column + 2) (pos 0)) (suc column) (negsuc 0)) (pos 0)
+      (let l = long (length-set (replicate (column + 2) (pos 0)) (suc column) (negsuc 0) ∙ length-replicate (column + 2) (pos 0)) in omega (arith, l, g));
   equal = λ x sol. finish _ _ _
       (worth_combined (columns_of state.system) (number_of (set (replicate (column + 2) (pos 0)) (suc column) (negsuc 0))) (unit (suc column)) (unit (suc column)) x (negsuc 0) (pos 0) (pos 1) (λ s l. parts s (same_or_not s (suc column))))
       (worth_swapped (columns_of state.system) (unit (suc column)) x ∙ worth_unit (columns_of state.system) column x below);

@@ -107,7 +107,6 @@ pub combined_at_last : (line pivot : List ℤ) (q : ℕ) (values : List ℤ) (i 
 combined_at_last line pivot q values i so h g = record {
   each = λ s. reached s (λ t z. z ≡ combined_at line pivot q t) so.each (λ k. nothing_combined _ _ _ _ (get_or-eq_default line (pos 0) (omega (arith, g, k))) (get_or-eq_default pivot (pos 0) (omega (arith, g, k))));
   wide = record { each = λ s. reached s (λ t z. IsWide z) so.wide (λ k. nothing_wide) };
-  short = λ most l m. omega (arith, so.one_each, h, l, m);
 }
   where
     reached : (s : ℕ) (P : ℕ → ℤ → Type 0) → ((t : ℕ) → t < i → P t (number_of values t)) → (i ≤ s → P s (pos 0)) → P s (number_of values s)

@@ -14,3 +14,5 @@ pub mod AddedRows
 pub mod Excluding
 pub mod OneEntry
 pub mod Branches
+pub mod Sums
+pub mod Dropping

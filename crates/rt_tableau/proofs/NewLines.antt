@@ -8,12 +8,21 @@ use Rattle.std.proofs.lemmas.Bool.{cases_lt, eqb-true, eq-eqb}
 use Rattle.std.proofs.lemmas.Int.{ints, to_z-of_z}
 use Rattle.std.proofs.lemmas.List.{get_or_default, get_or_append_left}
 use Rattle.std.specs.Int.RustNames.{unsigned_abs}
-use Rattle.rt_solved.proofs.Proportional.{same_or_not}
+use Rattle.rt_solved.proofs.Proportional.{same_or_not, times_cancel}
+use Rattle.rt_solved.proofs.Exchanges.{turned_zero}
 use Rattle.rt_tableau.specs.Numbers.{number_of, AreSmall, AreReduced, IsFirst, IsUpdated, PassesAt}
 use Rattle.rt_tableau.specs.States.{number_at, IsFirstPast}
 use Rattle.rt_tableau.specs.Tables.{line_at, table_of, IsKeptLine, IsNewLine, IsNewKept, IsNewPast, AreNew}
 use Rattle.rt_tableau.specs.Turned.{IsTurned}
 use Rattle.rt_tableau.proofs.Signs.{turned_small, turned_no_factor}
+
+pub some_factor : (f : ℕ) → 0 < f → pos 0 <ℤ pos f
+some_factor f h = omega (arith, ints, h)
+
+-- a combination of 0 and 0 is 0, and so is its quotient
+pub no_number : (f : ℕ) (n a b u v : ℤ) → 0 < f → u ≡ pos 0 → v ≡ pos 0 → pos f *ℤ n ≡ a *ℤ u +ℤ b *ℤ v → n ≡ pos 0
+no_number f n a b u v h e g k =
+    times_cancel (pos f) n (pos 0) (some_factor f h) (k ∙ omega (arith, ints, ap (λ z. a *ℤ z) e, ap (λ z. b *ℤ z) g))
 
 -- behind the columns stands the right side
 pub right_at : (columns : ℕ) → number_at columns columns ≡ 0
@@ -57,7 +66,7 @@ module _ (lines : List (List ℤ)) (columns p q i : ℕ) (kept : IsKeptLine (suc
       other = λ n. absurd (n e);
       reduced = turned_no_factor (number_of (line_at lines i)) (number_of new) kept.reduced is.each;
     };
-    kept = record { short = subst (λ n. n ≤ suc columns) (sym is.one_each) kept.short; small = turned_small (line_at lines i) new kept.small is; reduced = turned_no_factor (number_of (line_at lines i)) (number_of new) kept.reduced is.each };
+    kept = record { none_behind = λ s h. turned_zero _ _ (is.each s) (kept.none_behind s h); small = turned_small (line_at lines i) new kept.small is; reduced = turned_no_factor (number_of (line_at lines i)) (number_of new) kept.reduced is.each };
   }
 
   magnitude : (z : ℤ) → z <ℤ pos 0 → pos (unsigned_abs z) ≡ neg_ℤ z
@@ -95,11 +104,26 @@ module _ (lines : List (List ℤ)) (columns p q i : ℕ) (kept : IsKeptLine (suc
     reduced = are.reduced;
   }
 
+  -- its numbers behind the columns are 0
+  none_new : (numbers : ℕ → ℤ) → IsKeptLine (suc columns) (line_at lines p) → AreReduced (line_at lines i) (line_at lines p) q numbers → (s : ℕ) → suc columns ≤ s → numbers s ≡ pos 0
+  none_new numbers pivot are s h = no_number are.factor _ _ _ _ _ are.positive (kept.none_behind s h) (pivot.none_behind s h) (are.each s)
+
+  -- a place past the limit is one of the columns', or the right side's
+  pub past_there : (s : ℕ) → IsKeptLine (suc columns) (line_at lines p) → PassesAt (line_at lines i) (line_at lines p) q s → s < suc columns
+  past_there s pivot is =
+      elim (cases_lt s (suc columns)) [
+        | inl l ↦ l
+        | inr g ↦ absurd (none_past (is.numbers s) (none_new is.numbers pivot is.are s g) is.first.past)
+      ]
+    where
+      none_past : (z : ℤ) → z ≡ pos 0 → 1000000000000000000 < unsigned_abs z → ⊥
+      none_past z e h = let l : 1000000000000000000 < 0 = subst (λ y. 1000000000000000000 < unsigned_abs y) e h in omega (arith, l)
+
   -- any other line
   pub new_updated : (new : List ℤ) → IsKeptLine (suc columns) (line_at lines p) → (i ≡ p → ⊥) → IsUpdated (line_at lines i) (line_at lines p) q new → IsNewKept (table_of lines) columns p q i new
   new_updated new pivot n is = record {
     new = is_new (number_of new) n is.numbers;
-    kept = record { short = is.short (suc columns) kept.short pivot.short; small = is.small; reduced = is.numbers.reduced };
+    kept = record { none_behind = none_new (number_of new) pivot is.numbers; small = is.small; reduced = is.numbers.reduced };
   }
 
   pub new_past : (s j : ℕ) → IsKeptLine (suc columns) (line_at lines p) → (i ≡ p → ⊥) → j < suc columns → s ≡ number_at columns j → PassesAt (line_at lines i) (line_at lines p) q s
@@ -107,7 +131,7 @@ module _ (lines : List (List ℤ)) (columns p q i : ℕ) (kept : IsKeptLine (suc
   new_past s j pivot n g e is = record {
     numbers = is.numbers;
     new = is_new is.numbers n is.are;
-    first = first_place columns is.numbers s j (is.there (suc columns) kept.short pivot.short) g e is.first;
+    first = first_place columns is.numbers s j (past_there s pivot is) g e is.first;
   }
 
 -- a line that code reads

@@ -1,17 +1,17 @@
 -- A tableau after a pivot, and where a pivot stops.
 use Rattle.std.proofs.Common.{◌≡◌, ℕ, zero, suc, ◌<◌, ◌≤◌, ℤ, pos, negsuc, neg_ℤ, ◌+ℤ◌, ◌*ℤ◌, ◌≤ℤ◌, ◌<ℤ◌, List, length, ◌⊎◌, refl, sym, ap, subst, subst₂, ◌∙◌, inl, inr, arith}
-use Rattle.std.proofs.Math.ListN.{get_or-eq_default}
 use Rattle.std.proofs.lemmas.Bool.{cases_lt}
 use Rattle.std.proofs.lemmas.Int.{ints}
 use Rattle.std.proofs.lemmas.List.{length-set}
 use Rattle.rt_solved.specs.Lines.{Divides, IsReduced}
 use Rattle.rt_solved.specs.Systems.{columns_of, IsSolution}
 use Rattle.rt_solved.specs.Tables.{IsExchanged, basic_of}
-use Rattle.rt_solved.proofs.Proportional.{proportional, same_or_not, times_cancel}
+use Rattle.rt_solved.proofs.Proportional.{proportional, same_or_not}
 use Rattle.rt_solved.proofs.Exchanges.{exchange_solves_each, turned_zero}
 use Rattle.rt_tableau.specs.Numbers.{number_of, HaveNoFactor}
 use Rattle.rt_tableau.specs.States.{State, IsNegative, exchanged_state, IsSmallLine, IsFirstPast, PassesFirst}
 use Rattle.rt_tableau.specs.Tables.{line_at, table_of, IsKeptLine, IsKept, IsReady, IsNewLine, AreNew, IsStop}
+use Rattle.rt_tableau.proofs.NewLines.{some_factor, no_number}
 
 no_sign : (p q : ℤ) → pos 0 <ℤ p → q <ℤ pos 0 → p ≡ q → ⊥
 no_sign p q h g e = omega (arith, ints, h, g, e)
@@ -67,14 +67,8 @@ reduced_numbers columns numbers none beyond = record { no_factor = λ d k all. n
     each d k all s (inl h) = (pos 0, ap (λ z. k *ℤ z) (beyond s h) ∙ times_none k ∙ sym (times_none d))
     each d k all s (inr h) = all s h
 
-pub beyond_none : (columns : ℕ) (line : List ℤ) → length line ≤ suc columns → (s : ℕ) → columns < s → number_of line s ≡ pos 0
-beyond_none columns line short s h = get_or-eq_default line (pos 0) (omega (arith, short, h))
-
 pub reduced_line : (columns : ℕ) (line : List ℤ) → IsKeptLine (suc columns) line → IsReduced columns (number_of line)
-reduced_line columns line kept = reduced_numbers columns (number_of line) kept.reduced (beyond_none columns line kept.short)
-
-some_factor : (f : ℕ) → 0 < f → pos 0 <ℤ pos f
-some_factor f h = omega (arith, ints, h)
+reduced_line columns line kept = reduced_numbers columns (number_of line) kept.reduced (λ s h. kept.none_behind s (omega (arith, h)))
 
 -- new lines are those of an exchanged table
 pub new_exchanged : (table : ℕ → ℕ → ℤ) (count columns p q : ℕ) (lines : List (List ℤ)) → p < count → AreNew table count columns p q lines → IsExchanged columns count p q table (table_of lines)
@@ -161,10 +155,6 @@ module _ (table : ℕ → ℕ → ℤ) (p q i : ℕ) (before : List (List ℤ)) 
     unfolding mixed
     mixed_exchanged = record { turned = turned_by (cases_lt p i) (cases_lt i p); others = λ r h n. others_by r n (cases_lt r i) (cases_lt i r) }
 
-no_number : (f : ℕ) (n a b u v : ℤ) → 0 < f → u ≡ pos 0 → v ≡ pos 0 → pos f *ℤ n ≡ a *ℤ u +ℤ b *ℤ v → n ≡ pos 0
-no_number f n a b u v h e g k =
-    times_cancel (pos f) n (pos 0) (some_factor f h) (k ∙ omega (arith, ints, ap (λ z. a *ℤ z) e, ap (λ z. b *ℤ z) g))
-
 -- a pivot that stops tells the first place past the limit
 pub passes : (state : State) (lines : List (List ℤ)) (p q : ℕ) (at : ℕ × ℕ) → IsKept state lines → IsNegative state p q → IsStop (table_of lines) (length lines) (columns_of state.system) p q at
     → PassesFirst state p q at.0 at.1
@@ -192,7 +182,7 @@ passes state lines p q at kept negative stop = record {
     beyond s h = by_row (same_or_not at.0 p)
       where
         none : (r : ℕ) → r < length state.system.rows → table_of lines r s ≡ pos 0
-        none r l = beyond_none (columns_of state.system) (line_at lines r) (kept.each r l).short s h
+        none r l = (kept.each r l).none_behind s (omega (arith, h))
 
         by_row : (at.0 ≡ p) ⊎ (at.0 ≡ p → ⊥) → stop.past.numbers s ≡ pos 0
         by_row (inl e) = turned_zero _ _ (stop.past.new.turned e s) (none p negative.row)

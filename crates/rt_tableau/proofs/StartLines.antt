@@ -282,7 +282,7 @@ module _ (strips : ℕ) (rows : List Row) (lines : List (List ℤ)) (are : AreSt
       enough = enough_start;
     };
     each = λ i h. record {
-      short = let l = (start i h).long in omega (arith, l, h);
+      none_behind = λ s g. get_or-eq_default (line_at lines i) (pos 0) (let l = (start i h).long in omega (arith, l, h, g));
       small = (start i h).small;
       reduced = start_reduced ((2 * strips + 2) + length rows) strips ((2 * strips + 2) + i) (get_or rows i no_row) (line_at lines i) (start i h);
     };

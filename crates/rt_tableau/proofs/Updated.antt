@@ -1,5 +1,5 @@
 -- A line after an exchange: combined, and over the greatest common factor.
-use Rattle.std.proofs.Common.{◌≡◌, ℕ, ◌<◌, ◌≤◌, ℤ, pos, neg_ℤ, ◌+ℤ◌, ◌*ℤ◌, ◌<ℤ◌, List, length, Option, Some, sym, ap, subst, ◌∙◌, inl, inr, arith}
+use Rattle.std.proofs.Common.{◌≡◌, ℕ, ◌<◌, ℤ, pos, neg_ℤ, ◌+ℤ◌, ◌*ℤ◌, ◌<ℤ◌, List, length, Option, Some, sym, ap, subst, ◌∙◌, inl, inr, arith}
 use Rattle.std.specs.Option.{MatchOption}
 use Rattle.std.proofs.Math.ListN.{get_or-eq_default}
 use Rattle.std.proofs.lemmas.Bool.{cases_lt}
@@ -49,7 +49,6 @@ updated_by line pivot q values new factor are common quotients = record {
     reduced = no_factor_left (number_of values) (number_of new) factor common (λ s. (quotients.each s).is);
   };
   small = record { each = λ s. (quotients.each s).small };
-  short = λ most h g. subst (λ n. n ≤ most) (sym quotients.one_each) (are.short most h g);
 }
 
 pub passes_by : (line pivot : List ℤ) (q : ℕ) (values : List ℤ) (factor s : ℕ) → AreCombined line pivot q values → IsCommon (number_of values) factor → IsFirstOver factor values s → PassesAt line pivot q s
@@ -61,12 +60,8 @@ passes_by line pivot q values factor s are common first = record {
     each = λ t. sym (common.each t).1 ∙ are.each t;
     reduced = no_factor_left (number_of values) (λ t. (common.each t).0) factor common (λ t. (common.each t).1);
   };
-  there = λ most h g. below most (are.short most h g) first.there;
   first = first_of_quotients factor values (λ t. (common.each t).0) s common.positive (λ t. (common.each t).1) first;
 }
-  where
-    below : (most : ℕ) → length values ≤ most → s < length values → s < most
-    below most h g = omega (arith, h, g)
 
 -- as code finds them
 pub updated_from : (line pivot : List ℤ) (q : ℕ) (values first second new : List ℤ) (found : Option (List ℤ)) (factor : ℕ) → AreCombined line pivot q values → first ≡ values → second ≡ values

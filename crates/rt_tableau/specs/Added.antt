@@ -53,7 +53,7 @@ pub record IsWorth (state : State) (column : ℕ) (rest : List ℤ) (over : ℤ)
   pub positive : pos 0 <ℤ over
   pub small_over : IsSmall over
   pub small : AreSmall rest
-  pub short : length rest ≤ suc (columns_of state.system)
+  pub none_behind : (s : ℕ) → suc (columns_of state.system) ≤ s → number_of rest s ≡ pos 0
   pub equal : (point : ℕ → ℤ) → IsSolution state.system point → worth (columns_of state.system) (number_of rest) point +ℤ over *ℤ point (suc column) ≡ pos 0
   pub clear : (i : ℕ) → i < length state.system.rows → number_of rest (suc (basic_of state.basis i)) ≡ pos 0
   pub no_factor : (d k : ℤ) → Divides d (k *ℤ over) → ((s : ℕ) → Divides d (k *ℤ number_of rest s)) → Divides d k

@@ -6,4 +6,5 @@ pub mod Refusals
 pub mod Starts
 pub mod Costs
 pub mod Added
+pub mod Dropped
 pub mod Laws

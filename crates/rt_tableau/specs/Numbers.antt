@@ -33,7 +33,6 @@ pub record AreWide (values : List ℤ) : Type 0 where
 pub record AreCombined (line pivot : List ℤ) (q : ℕ) (values : List ℤ) : Type 0 where
   pub each : (s : ℕ) → number_of values s ≡ combined_at line pivot q s
   pub wide : AreWide values
-  pub short : (most : ℕ) → length line ≤ most → length pivot ≤ most → length values ≤ most
 
 -- it divides each of the numbers, and what divides one multiple of each divides that multiple of it
 pub record IsCommon (numbers : ℕ → ℤ) (factor : ℕ) : Type 0 where
@@ -87,11 +86,9 @@ pub record AreReduced (line pivot : List ℤ) (q : ℕ) (numbers : ℕ → ℤ) 
 pub record IsUpdated (line pivot : List ℤ) (q : ℕ) (new : List ℤ) : Type 0 where
   pub numbers : AreReduced line pivot q (number_of new)
   pub small : AreSmall new
-  pub short : (most : ℕ) → length line ≤ most → length pivot ≤ most → length new ≤ most
 
 -- the line after an exchange would be past the limit, first at that place
 pub record PassesAt (line pivot : List ℤ) (q s : ℕ) : Type 0 where
   pub numbers : ℕ → ℤ
   pub are : AreReduced line pivot q numbers
-  pub there : (most : ℕ) → length line ≤ most → length pivot ≤ most → s < most
   pub first : IsFirst numbers s

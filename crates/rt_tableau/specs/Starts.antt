@@ -42,6 +42,12 @@ system_of rows = record { strips = strips_of rows; rows = rows }
 pub record HasColumn (strips : ℕ) (var : Var) : Type 0 where
   pub below : strips_with var < strips + 1
 
+-- each variable that the terms name has a column
+abbrev pub HaveColumns : ℕ → List (Option Term) → Type 0
+HaveColumns strips [] = Unit {0}
+HaveColumns strips (None ∷ terms) = HaveColumns strips terms
+HaveColumns strips (Some term ∷ terms) = HasColumn strips term.var × HaveColumns strips terms
+
 -- columns in order from the first one
 abbrev pub columns_from : ℕ → ℕ → List ℕ
 columns_from first zero = []

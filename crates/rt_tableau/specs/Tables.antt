@@ -12,9 +12,9 @@ line_at lines i = slice_index_or lines i []
 abbrev pub table_of : List (List ℤ) → ℕ → ℕ → ℤ
 table_of lines i s = number_of (line_at lines i) s
 
--- a line that is kept: so many numbers at most, all small, with no factor in common
+-- a line that is kept: so many numbers, behind which all are 0, all small, with no factor in common
 pub record IsKeptLine (most : ℕ) (line : List ℤ) : Type 0 where
-  pub short : length line ≤ most
+  pub none_behind : (s : ℕ) → most ≤ s → number_of line s ≡ pos 0
   pub small : AreSmall line
   pub reduced : HaveNoFactor (number_of line)
 

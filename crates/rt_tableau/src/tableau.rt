@@ -8,6 +8,7 @@ ghost use Rattle.rt_tableau.specs.States.{State, IsGoalRow, IsGoalFree, IsNegati
 ghost use Rattle.rt_tableau.specs.Tables.{IsKept};
 ghost use Rattle.rt_tableau.specs.Refusals.{IsRefused};
 ghost use Rattle.rt_tableau.specs.Added.{IsAddable, added_state, IsPastAdded, IsBranch, IsNewRow};
+ghost use Rattle.rt_tableau.specs.Dropped.{dropped_state, EndsInOwn, AreNamed};
 ghost use Rattle.rt_tableau.specs.Starts.{strips_of, system_of, start_of, HasColumn, IsTableRow};
 
 use crate::added::{added_line, alone, with_column, with_row, without};
@@ -117,6 +118,13 @@ impl Tableau {
         }
     }
 
+    /// The variable whose costs are told.
+    pub fn goal(&self) -> Var
+        ensures { result ≡ self.now.goal }
+    {
+        self.goal
+    }
+
     /// The column of the goal.
     pub fn goal_column(&self) -> u32
         ensures is { result ≡ column_of self.now.system.strips self.now.goal }
@@ -164,6 +172,14 @@ impl Tableau {
             }
             None => ratio(&cost_free(goal, j), &1),
         }
+    }
+
+    /// That each row has a basic column, and that no whole entry has a magnitude past 10^18. It does nothing.
+    pub fn look(&self)
+        ensures one_each { length self.now.basis ≡ length self.now.system.rows }
+        ensures small { IsSmallTable self.now }
+    {
+        let _rows = self.rows.len();
     }
 
     /// The same tableau once more. The only error is a want of memory.
@@ -237,6 +253,42 @@ impl Tableau {
                 Ok(found)
             }
         }
+    }
+
+    /// Takes the last row away, in which its own column is basic: what is left is the tableau of the rows before it.
+    pub fn drop_row(&mut self)
+        requires last { EndsInOwn self.old }
+        requires named { AreNamed self.old.system }
+        ensures { self.new ≡ dropped_state self.old }
+    {
+        self.lines.pop();
+        self.basis.pop();
+        self.rows.pop();
+    }
+
+    /// Makes column `q` basic in row `p`, whose entry there is below 0, where no whole entry of the new table passes a magnitude of 10^18. It
+    /// counts nothing: so a pivot is taken back. The only error is a want of memory, and then the tableau is as before.
+    pub fn exchange(&mut self, alloc: Global, p: u32, q: u32) -> Result<(), OutOfMemory>
+        requires place { IsNegative self.old p q }
+        requires small { IsSmallTable (exchanged_state self.old p q) }
+        ensures exchanged { OnOk result (self.new ≡ exchanged_state self.old p q) }
+        ensures refused { OnErr result (self.new ≡ self.old) }
+    {
+        let columns = self.columns() as usize;
+        let found = exchanged(
+            alloc,
+            self.lines.as_slice(),
+            self.basis.as_slice(),
+            columns,
+            p as usize,
+            q as usize,
+        )?;
+        let Ok(lines) = found else {
+            unreachable!();
+        };
+        self.lines = lines;
+        self.basis[p as usize] = q;
+        Ok(())
     }
 
     /// Makes column `q` basic in row `p`, whose entry there is below 0, and counts a pivot. Overflow exactly where a whole entry of the new

@@ -1,9 +1,9 @@
-use Rattle.std.proofs.Common.{◌≡◌, ℕ, ℤ, List, Result, Ok, Err, sym, subst, subst₂, suc, ◌∙◌}
+use Rattle.std.proofs.Common.{◌≡◌, ℕ, ℤ, List, Result, Ok, Err, sym, subst, subst₂, ◌∙◌}
 use Rattle.std.specs.Result.{MatchResult}
 use Rattle.rt_tableau.specs.Numbers.{IsUpdated, PassesAt}
 use Rattle.rt_tableau.specs.Tables.{line_at}
 use Rattle.rt_tableau.specs.Turned.{IsTurned}
-use Rattle.rt_tableau.proofs.NewLines.{new_turned, new_copied, new_updated, new_past, none_read, line_read}
+use Rattle.rt_tableau.proofs.NewLines.{new_turned, new_copied, new_updated, new_past, past_there, none_read, line_read}
 use Rattle.rt_tableau.proofs.exchange.updated_at.Goals as goal
 use Rattle.rt_tableau.proofs.exchange.updated_at.Goals.{After-as_slice-pivot}
 
@@ -37,7 +37,7 @@ pub place-requires : goal.place-requires
 place-requires c =
     let after = (goal.at.place-requires c).After-as_slice-pivot in
     let passes = told c.args.lines.now c.args.i c.args.p c.args.q c.as_slice-line.result.now c.as_slice-pivot.result.now c.in_ok-new-3.field-0 (Err c.in-Err.s) (here after) (pivot after) c.in-Err.is c.in_ok-new-3.ensures in
-    passes.there (suc c.args.columns) (c.requires.ready.each c.args.i c.requires.there).short (c.requires.ready.each c.args.p c.requires.ready.row).short
+    past_there c.args.lines.now c.args.columns c.args.p c.args.q c.args.i (c.requires.ready.each c.args.i c.requires.there) c.in-Err.s (c.requires.ready.each c.args.p c.requires.ready.row) passes
 
 pub returns-in-Ok : goal.returns-in-Ok
 returns-in-Ok c =
