@@ -1,12 +1,12 @@
 //! Each line is said as the formats spell it, and nothing more of it after a fault.
 use gds_grammar::Cause;
-use rt_base::{Cell, List, Text};
+use rt_base::{Cell, List, Rect, Text};
 use rt_desk::{DeskError, MemoryDesk};
 use rt_lines::{
     BrokenRule, say_array_step, say_bad_stream, say_coordinate_range, say_cyclic, say_no_axis,
     say_no_such_structure, say_not_built, say_sizes_fault, say_sizes_not_toml, say_source_rule,
-    say_table_fault, say_table_not_toml, say_tables_differ, say_too_deep, say_too_many,
-    say_unfetched, say_unmapped_layer, say_unsupported, say_usage,
+    say_source_shape, say_table_fault, say_table_not_toml, say_tables_differ, say_too_deep,
+    say_too_many, say_unfetched, say_unmapped_layer, say_unsupported, say_usage,
 };
 use rt_tech::{RuleName, TableCause, Which};
 use std::alloc::Global;
@@ -30,6 +30,7 @@ enum Line {
     ArrayStep(u64),
     CoordinateRange(u64),
     TooDeep,
+    SourceShape(&'static str),
     SourceRule(RuleName, Cell, Cell, i64, i64),
     TooMany(u64, &'static str),
     Unfetched(DeskError),
@@ -44,7 +45,7 @@ struct Names {
     ring: Vec<Text>,
 }
 
-static LINES: [(Line, &'static str); 40] = [
+static LINES: [(Line, &'static str); 41] = [
     (
         Line::Usage,
         "usage: retarget or check SOURCE STABLE TTABLE SIZES OUT CERT, or make N OUT\n",
@@ -136,6 +137,10 @@ static LINES: [(Line, &'static str); 40] = [
     (Line::CoordinateRange(34), "coordinate range at 34\n"),
     (Line::TooDeep, "too deep\n"),
     (
+        Line::SourceShape("CutLower"),
+        "source shape: CutLower at -9 8 10 11\n",
+    ),
+    (
         Line::SourceRule(
             RuleName::Width(0),
             Cell { x: -1, y: 2 },
@@ -217,6 +222,15 @@ fn say_of_source(desk: &mut MemoryDesk, line: &Line, names: &Names) -> Result<()
         Line::ArrayStep(offset) => say_array_step(desk, *offset),
         Line::CoordinateRange(offset) => say_coordinate_range(desk, *offset),
         Line::TooDeep => say_too_deep(desk),
+        Line::SourceShape(shape) => {
+            let rect = Rect {
+                x1: -9,
+                y1: 8,
+                x2: 10,
+                y2: 11,
+            };
+            say_source_shape(desk, shape, &rect)
+        }
         Line::SourceRule(rule, p, q, found, needed) => {
             let broken = BrokenRule {
                 rule: *rule,

@@ -3,3 +3,4 @@ pub mod Faults
 pub mod Refusals
 pub mod FaultsOne
 pub mod RefusalsOne
+pub mod NearLabels

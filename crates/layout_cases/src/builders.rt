@@ -1,7 +1,4 @@
-//! What the cases are made of: texts, tables of two masks, and layouts.
-ghost use Rattle.std.specs.Prelude.{◌≡◌, ◌<◌, ◌≤◌, [], ◌∷◌, pos, IfOk};
-ghost use Rattle.rt_tech.specs.Tech.{IsMeasured, IsMeasuredMask};
-
+//! What the cases are made of: texts, a table of two masks, and layouts.
 use rt_base::{List, Rect, Text};
 use rt_layout::Layout;
 use rt_tech::{Mask, Role, Tech};
@@ -13,63 +10,32 @@ pub fn text(alloc: Global, bytes: &[u8]) -> Result<Option<Text>, Fail> {
     Ok(Text::of(List::of(Vec::from_slice(alloc, bytes)?)))
 }
 
-/// The width and the space of a mask.
-#[derive(Clone, Copy, Drop)]
-pub struct Numbers {
-    pub width: u8,
-    pub space: u8,
-    ghost wide: { 1 ≤ width },
-    ghost apart: { 1 ≤ space },
-}
-
-/// A table of two masks, named a and b and on the layers of these letters' codes.
-#[derive(Drop)]
-pub struct Rules {
-    /// How many database units a step is.
-    pub grid: u8,
-    /// The data type of both masks.
-    pub datatype: u8,
-    /// What the shapes of each mask are for.
-    pub roles: [Role; 2],
-    /// The numbers of each mask.
-    pub numbers: [Numbers; 2],
-    ghost some: { 1 ≤ grid },
-    ghost few: { grid ≤ 100 },
-}
-
 // A mask whose name is one letter, on the layer of the letter's code.
-fn mask(alloc: Global, letter: u8, rules: &Rules, nth: usize) -> Result<Mask, Fail>
-    requires nth { nth < 2 }
-    requires from { 97 ≤ letter }
-    requires to { letter ≤ 122 }
-    ensures { IfOk result (λ mask. IsMeasuredMask mask × (mask.name ≡ letter ∷ []) × (mask.layer ≡ pos letter)) }
-{
+fn mask(alloc: Global, letter: u8, role: Role) -> Result<Mask, Fail> {
     let mut name = List::new(alloc);
     name.push(letter)?;
     Ok(Mask {
         name: Text::of(name).ok_or("not a text")?,
-        role: rules.roles[nth],
+        role,
         layer: i16::from(letter),
-        datatype: i16::from(rules.datatype),
+        datatype: 0,
         note: None,
-        width: i64::from(rules.numbers[nth].width),
-        space: i64::from(rules.numbers[nth].space),
+        width: 4,
+        space: 4,
         upper: 0,
         lowers: List::new(alloc),
     })
 }
 
-/// The table of these rules.
-pub fn table(alloc: Global, rules: &Rules) -> Result<Tech, Fail>
-    ensures { IfOk result IsMeasured }
-{
-    let first = mask(alloc, b'a', rules, 0)?;
-    let second = mask(alloc, b'b', rules, 1)?;
+/// A table of a gate and an active, named a and b.
+pub fn table(alloc: Global) -> Result<Tech, Fail> {
+    let gate = mask(alloc, b'a', Role::Gate)?;
+    let active = mask(alloc, b'b', Role::Active)?;
     let mut masks = List::new(alloc);
-    masks.push(first)?;
-    masks.push(second)?;
+    masks.push(gate)?;
+    masks.push(active)?;
     Ok(Tech {
-        grid: i64::from(rules.grid),
+        grid: 1,
         units: [2; 16],
         masks,
         encloses: List::new(alloc),

@@ -3,23 +3,11 @@ ghost use Rattle.std.specs.Prelude.{◌≤◌, length, map, IfOk};
 ghost use Rattle.rt_strips.specs.Placed.{placed};
 ghost use Rattle.rt_strips.specs.StripsOf.{AreStrips};
 
-use crate::builders::{Numbers, Placing, Rules, layout, rect, table};
+use crate::builders::{Placing, layout, rect, table};
 use rt_strips::{Climbs, Strip, StripError, Strips, strips_of, touching};
-use rt_tech::Role;
 use std::alloc::Global;
 use std::process::Abort;
 use std::test::Fail;
-
-// A table of a gate, an active, and behind them the channels.
-const GATES: Rules = Rules {
-    grid: 1,
-    datatype: 0,
-    roles: [Role::Gate, Role::Active],
-    numbers: [
-        Numbers { width: 4, space: 4 },
-        Numbers { width: 4, space: 4 },
-    ],
-};
 
 // A case: its name, rectangles, and their strips.
 type Case = (&'static str, &'static [Placing], &'static [Placing]);
@@ -136,7 +124,7 @@ fn are(strips: &[Strip], want: &[Placing]) -> bool {
 
 #[test]
 fn strips_are_whole_runs_in_order(rt: HostRuntime) -> Result<(), Fail> {
-    let tech = table(rt.alloc(), &GATES)?;
+    let tech = table(rt.alloc())?;
     for (name, placings, want) in &CASES {
         let layout = layout(rt.alloc(), placings)?;
         assert!(rt; layout.masks.as_slice().len() == 2 && tech.masks.as_slice().len() == 2);
@@ -201,7 +189,7 @@ fn strips(rt: &impl Abort, alloc: Global, placings: &[Placing]) -> Result<Strips
     ensures few { IfOk result (λ strips. length strips.list ≤ 100) }
     ensures strips { IfOk result (λ strips. AreStrips (map placed strips.list)) }
 {
-    let tech = table(alloc, &GATES)?;
+    let tech = table(alloc)?;
     let layout = layout(alloc, placings)?;
     assert!(rt; layout.masks.as_slice().len() == 2 && tech.masks.as_slice().len() == 2);
     let strips = strips_of(alloc, &layout, &tech, 100)?;

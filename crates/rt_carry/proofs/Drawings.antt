@@ -3,8 +3,8 @@ use Rattle.std.proofs.Common.{◌≡◌, ℕ, ◌+◌, ◌<◌, ℤ, pos, ◌*�
 use Rattle.std.proofs.lemmas.Int.{ints}
 use Rattle.std.proofs.lemmas.List.{length-map, map_more, take_all}
 use Rattle.std.proofs.lemmas.Option.{slice_get_read}
-use Rattle.rt_nets.specs.declared.job.Job.{Job}
-use Rattle.rt_nets.specs.Job.{strips_of, IsJob}
+use Rattle.rt_view.specs.declared.job.Job.{Job}
+use Rattle.rt_view.specs.Job.{strips_of, IsJob}
 use Rattle.rt_rows.specs.declared.positions.TheConstants.{EXTENT_LIMIT}
 use Rattle.rt_rows.specs.declared.row.Var.{Var}
 use Rattle.rt_rows.specs.declared.row.Var.TheVariants.{L, R, B, T, Width, Height}
@@ -19,7 +19,7 @@ use Rattle.rt_template.specs.Vertical.{MeetsUpwards}
 use Rattle.rt_template.specs.Drawing.{drawn_area, drawn}
 use Rattle.rt_moved.proofs.Drawn.{length_drawn_from, drawn_at}
 use Rattle.rt_moved.proofs.Extents.{strip_fits, width_fits, height_fits}
-use Rattle.rt_moved.proofs.Metals.{on_target}
+use Rattle.rt_moved.proofs.Source.{on_target}
 use Rattle.gds_stream.specs.declared.cell.Shape.{Shape}
 use Rattle.rt_carry.specs.Shapes.{shape_of, layer_of_mask, datatype_of_mask, IsInExtent}
 use Rattle.rt_carry.specs.Drawings.{strip_drawn, CanBeDrawn}

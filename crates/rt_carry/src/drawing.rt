@@ -1,6 +1,6 @@
-//! Positions that meet both templates as a cell of rectangles.
+//! Positions that meet both templates as a cell of rectangles and texts.
 ghost use Rattle.std.specs.Prelude.{◌≡◌, ◌<◌, ◌*ℤ◌, map, length, IfOk};
-ghost use Rattle.rt_nets.specs.Job.{strips_of, IsJob};
+ghost use Rattle.rt_view.specs.Job.{strips_of, IsJob};
 ghost use Rattle.rt_strips.specs.Placed.{placed};
 ghost use Rattle.rt_tech.specs.Tech.{IsGrid};
 ghost use Rattle.rt_rows.specs.Places.{places};
@@ -8,19 +8,22 @@ ghost use Rattle.rt_template.specs.Horizontal.{MeetsAcross};
 ghost use Rattle.rt_template.specs.Vertical.{MeetsUpwards};
 ghost use Rattle.rt_template.specs.Drawing.{drawn};
 ghost use Rattle.rt_carry.specs.Shapes.{shape_of, IsInExtent, AreInExtent};
+ghost use Rattle.rt_carry.specs.Texts.{AreNoted};
 ghost use Rattle.rt_carry.specs.Drawings.{strip_drawn, HavePlaces, CanBeDrawn, IsDrawingOf};
 
+use crate::labels::notes;
 use gds_stream::{Flat, Shape};
 use rt_base::{List, OutOfMemory, Text};
-use rt_nets::Job;
 use rt_rows::Positions;
 use rt_strips::Strip;
 use rt_tech::Tech;
+use rt_view::Job;
 use std::alloc::Global;
 
 /// The drawing as a cell to be written: a rectangle for each strip, in order, at its position times grid, on the target's
-/// layers. Positions are in target steps, and the cell is in database units of the target.
-#[tactic(auto, using(crate::proofs::Drawings::can_be_drawn))]
+/// layers; and for each label a text, in order, at the lower left corner of the drawing of the first strip that it touches.
+/// Positions are in target steps, and the cell is in database units of the target.
+#[tactic(auto, using(crate::proofs::Drawings::can_be_drawn, crate::proofs::Touched::all_touch))]
 pub fn draw(
     alloc: Global,
     job: &Job,
@@ -32,6 +35,7 @@ pub fn draw(
     requires entries { HavePlaces (strips_of job.now) at.now }
     requires across { MeetsAcross job.now (places at.now) }
     requires upwards { MeetsUpwards job.now (places at.now) (places at.now) }
+    requires labels { AreNoted job.now.target job.now.view.labels }
     ensures { IfOk result (λ flat. IsDrawingOf job.now (places at.now) library.now cell.now flat) }
 {
     Ok(Flat {
@@ -39,7 +43,13 @@ pub fn draw(
         name: cell.copy(alloc)?,
         units: job.target.units,
         shapes: shapes(alloc, &job.target, job.view.strips.list.as_slice(), at)?,
-        texts: List::new(alloc),
+        texts: notes(
+            alloc,
+            &job.target,
+            job.view.strips.list.as_slice(),
+            at,
+            job.view.labels.as_slice(),
+        )?,
     })
 }
 

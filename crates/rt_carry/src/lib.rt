@@ -2,5 +2,6 @@
 #![tactic(auto)]
 
 mod drawing;
+mod labels;
 
 pub use drawing::draw;

@@ -4,8 +4,8 @@ use Rattle.rt_tech.proofs.Lengths.{space_is_length}
 use Rattle.rt_rows.specs.Places.{places}
 use Rattle.rt_rows.specs.declared.positions.Positions.{Positions}
 use Rattle.rt_rows.specs.declared.name.Name.{Name}
-use Rattle.rt_nets.specs.declared.job.Job.{Job}
-use Rattle.rt_nets.specs.Job.{strips_of, IsJob}
+use Rattle.rt_view.specs.declared.job.Job.{Job}
+use Rattle.rt_view.specs.Job.{strips_of, IsJob}
 use Rattle.rt_strips.specs.declared.listing.Strip.{Strip}
 use Rattle.rt_strips.proofs.Placed.{strip_there, strip_below}
 use Rattle.rt_template.specs.Vertical.{HaveColumns}

@@ -7,8 +7,8 @@ use Rattle.rt_tech.specs.Tech.{space_of}
 use Rattle.rt_rows.specs.declared.name.Name.{Name}
 use Rattle.rt_rows.specs.declared.row.Var.{Var}
 use Rattle.rt_rows.specs.declared.row.Var.TheVariants.{L, R}
-use Rattle.rt_nets.specs.declared.job.Job.{Job}
-use Rattle.rt_nets.specs.Job.{strips_of}
+use Rattle.rt_view.specs.declared.job.Job.{Job}
+use Rattle.rt_view.specs.Job.{strips_of}
 use Rattle.rt_strips.specs.Placed.{Placed, mask_of, bottom_of, top_of}
 use Rattle.rt_strips.specs.Standing.{IsStrip, AreOfOneMask, Touch}
 use Rattle.rt_template.specs.Vertical.IsChain.{one as chain_one, onward as chain_onward}

@@ -3,7 +3,7 @@ use Rattle.std.specs.Prelude.{ℕ, ℤ, ◌↔◌, List, Contains}
 use Rattle.rt_rows.specs.declared.row.Var.{Var}
 use Rattle.rt_rows.specs.declared.name.Name.{Name}
 use Rattle.rt_rows.specs.declared.name.Name.TheVariants.{Gap, Run}
-use Rattle.rt_nets.specs.declared.job.Job.{Job}
+use Rattle.rt_view.specs.declared.job.Job.{Job}
 use Rattle.rt_template.specs.Vertical.{IsSeenFrom, IsKeptAbove, IsWholeChain}
 
 module _ (job : Job) (columns : Var → ℤ) where

@@ -2,7 +2,7 @@
 ghost use Rattle.std.specs.Prelude.{◌<◌, ◌^◌, length, map, IfOk};
 ghost use Rattle.rt_strips.specs.Placed.{placed};
 ghost use Rattle.rt_rows.specs.Places.{places};
-ghost use Rattle.rt_nets.specs.Job.{IsJob};
+ghost use Rattle.rt_view.specs.Job.{IsJob};
 ghost use Rattle.rt_template.specs.Vertical.{HaveColumns};
 ghost use Rattle.rt_columns.specs.Shown.{ListsShown};
 ghost use Rattle.rt_columns.specs.Sides.{side_of, HaveSides};
@@ -11,9 +11,9 @@ ghost use Rattle.rt_columns.specs.Ranking.{ListsMasks};
 use crate::mask::add_mask;
 use crate::ranks::{ranks, sorted_sides};
 use rt_base::{List, OutOfMemory};
-use rt_nets::Job;
 use rt_rows::{Name, Positions};
 use rt_strips::Strips;
+use rt_view::Job;
 use std::alloc::Global;
 
 /// The names that the columns of the drawing show, in no order that is told, each at least once: of the gap between two strips of which the

@@ -1,13 +1,11 @@
 -- What the searches along rows, along columns, at corners and among pieces find, as the space rule says it.
 use Rattle.std.proofs.Common.{◌≡◌, ℕ, ◌<◌, ℤ, map, Option, Some, None, MatchOption, Result, IfOk, subst, inl, inr}
 use Rattle.std.proofs.lemmas.Result.{IfOk-weaker}
-use Rattle.rt_cells.specs.Line.{IsGap}
-use Rattle.rt_cells.specs.Cells.{row_of, transposed, Joined}
-use Rattle.rt_cells.specs.Cells.Joined.{here, onward}
-use Rattle.rt_rules.specs.Space.{KeepsGapsAlongRows, KeepsPiecesApart, KeepsSpace, IsNarrowGap, AreNearPieces, IsCornerContact, SpaceBreach}
+use Rattle.rt_cells.specs.Cells.{transposed}
+use Rattle.rt_rules.specs.Space.{KeepsGapsAlongRows, KeepsPiecesApart, KeepsSpace}
 use Rattle.rt_base.specs.declared.memory.OutOfMemory.{OutOfMemory}
 use Rattle.rt_strips.specs.Placed.{placed}
-use Rattle.rt_rules.proofs.Alike.{AreAlike, alike_back, gap_alike, turned_alike, space_alike, space_breach_alike}
+use Rattle.rt_rules.proofs.Alike.{AreAlike, gap_alike, space_alike, space_breach_alike}
 use Rattle.rt_drc.specs.declared.rows.Rows.{Rows}
 use Rattle.rt_drc.specs.declared.rows.Witness.{Witness}
 use Rattle.rt_drc.specs.Rows.{AreRowsOf, cells_of, turned_cells_of, ShowsSpace}

@@ -1,5 +1,5 @@
 -- Counted strips grown on all sides: where they lie in a mask, and what shows that they don't.
-use Rattle.std.proofs.Common.{◌≡◌, ℕ, ◌+◌, ◌<◌, ℤ, pos, ◌+ℤ◌, ◌-ℤ◌, ◌≤ℤ◌, ◌<ℤ◌, ◌⊎◌, List, [], ◌∷◌, ◌++◌, length, get_or, map, Contains, Option, Some, None, MatchOption, sym, ap, subst, refl, ◌∙◌, arith, inl, inr}
+use Rattle.std.proofs.Common.{◌≡◌, ℕ, ◌+◌, ◌<◌, ℤ, pos, ◌+ℤ◌, ◌-ℤ◌, ◌≤ℤ◌, ◌<ℤ◌, ◌⊎◌, List, [], ◌∷◌, ◌++◌, length, get_or, map, Option, Some, None, MatchOption, sym, ap, subst, refl, ◌∙◌, arith, inl, inr}
 use Rattle.std.proofs.lemmas.Int.{ints, clamps, by_lt_z}
 use Rattle.std.proofs.lemmas.Option.{MatchOption-at_some, MatchOption-at_none}
 use Rattle.std.proofs.lemmas.List.Elements.{Contains-push, Contains-push_cases, Contains-append_left}
@@ -22,9 +22,9 @@ use Rattle.rt_cuts.specs.Cuts.{grown}
 use Rattle.rt_cuts.proofs.Inside.{near_grown, nearest_near}
 use Rattle.rt_drc.specs.declared.counting.Counted.{Counted}
 use Rattle.rt_drc.specs.declared.rows.Witness.{Witness}
-use Rattle.rt_pieces.specs.Members.{IsOf, box_of, held_by}
+use Rattle.rt_pieces.specs.Members.{box_of, held_by}
 use Rattle.rt_drc.specs.Counting.{IsCounted, counted_cells, LieIn}
-use Rattle.rt_drc.specs.Enclosing.{lowest, HasRoom, HaveRoom, IsOutside, IsBeyond, IsSeenBeyond, IsSeenFrom, IsGrownRect, ShowsBeyond, IsGrownOf, HasGrown, AreGrownOf, AreWhole, ShowsBare, ShowsEnclosure}
+use Rattle.rt_drc.specs.Enclosing.{lowest, HasRoom, HaveRoom, IsOutside, IsSeenBeyond, IsSeenFrom, IsGrownRect, ShowsBeyond, IsGrownOf, AreGrownOf, AreWhole, ShowsBare, ShowsEnclosure}
 use Rattle.rt_drc.specs.Nearness.{farthest}
 use Rattle.rt_drc.proofs.Cornered.{shown}
 use Rattle.rt_pieces.proofs.Families.{held_alike}

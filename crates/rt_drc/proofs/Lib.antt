@@ -1,5 +1,6 @@
 pub mod Own
 pub mod Wide
+pub mod InOrder
 pub mod Listed
 pub mod Exchanged
 -- gaps and corners of a mask
@@ -14,3 +15,5 @@ pub mod Breaching
 pub mod Squared
 pub mod Enclosed
 pub mod Distant
+-- what the rules of two masks count
+pub mod Paired

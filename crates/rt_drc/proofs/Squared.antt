@@ -2,7 +2,7 @@
 use Rattle.std.proofs.Common.{◌≡◌, ℕ, ◌<◌, ℤ, pos, ◌+ℤ◌, ◌-ℤ◌, ◌<ℤ◌, List, length, get_or, map, sym, subst, ◌∙◌, arith, refl}
 use Rattle.std.proofs.lemmas.Int.{ints, clamps}
 use Rattle.std.specs.Int.{int_max, int_min}
-use Rattle.rt_rules.specs.Cuts.{IsSquare, KeepsSize, SizeBreach}
+use Rattle.rt_rules.specs.Cuts.{KeepsSize, SizeBreach}
 use Rattle.rt_rules.specs.Pieces.{HasRectangles}
 use Rattle.rt_strips.specs.declared.listing.Strip.{Strip}
 use Rattle.rt_strips.specs.Placed.{Placed, placed, strip_at, covered_by}

@@ -5,7 +5,6 @@ use Rattle.std.proofs.lemmas.List.{get_or_default}
 use Rattle.std.proofs.lemmas.List.Elements.{All-contains}
 use Rattle.std.specs.Prelude.{IsPermutation}
 use Rattle.std.proofs.lemmas.List.Sorted.{Contains-permutation, IsPermutation-sym}
-use Rattle.std.proofs.lemmas.Bool.{cases_order}
 use Rattle.std.specs.Int.{int_max}
 use Rattle.rt_cells.specs.Line.{Within}
 use Rattle.rt_cells.specs.Rectangles.{Rectangle}

@@ -1,7 +1,6 @@
 pub mod Rows
 pub mod Wide
 pub mod Axes
-pub mod Masks
 -- the gaps and corners of a mask
 pub mod Following
 pub mod Cornering
@@ -15,3 +14,7 @@ pub mod Counting
 pub mod Squares
 pub mod Enclosing
 pub mod Distances
+-- rules in their order, those of one mask, and what the strips of cuts tell
+pub mod InOrder
+pub mod OneMask
+pub mod SoundCuts

@@ -1,7 +1,8 @@
-//! The check of a layout's view against the rules of width and space of a table; and the searches for what breaks a size, an enclosure or a
-//! distance, which no check of a view calls yet.
+//! The check of a layout's view against the rules of a table: widths, sizes and spaces of masks, enclosures and distances; and the searches for what
+//! breaks a size, an enclosure or a distance.
 #![tactic(auto)]
 
+mod answer;
 mod apart;
 mod axes;
 mod beside;
@@ -10,7 +11,10 @@ mod corners;
 mod counting;
 mod enclosures;
 mod gaps;
+mod kinds;
+mod masks;
 mod near;
+mod pairs;
 mod pieces;
 mod reach;
 mod rows;

@@ -1,8 +1,8 @@
 -- Which strips are near in rows.
 use Rattle.std.proofs.Common.{◌≡◌, ℕ, ◌<ℤ◌, Bool, true, false, sym, subst₂, inl, inr}
 use Rattle.std.specs.Bool.{MatchBool}
-use Rattle.rt_nets.specs.declared.job.Job.{Job}
-use Rattle.rt_nets.specs.Job.{strips_of}
+use Rattle.rt_view.specs.declared.job.Job.{Job}
+use Rattle.rt_view.specs.Job.{strips_of}
 use Rattle.rt_strips.specs.Placed.{Placed, strip_at}
 use Rattle.rt_strips.specs.Standing.{ShareRow, rows_apart}
 use Rattle.rt_template.specs.Horizontal.{AreNear, near_between}

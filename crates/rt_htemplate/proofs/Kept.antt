@@ -3,11 +3,11 @@ use Rattle.std.proofs.Common.{ℕ, ◌+◌, ◌<◌, ◌≤◌, List, [], ◌∷
 use Rattle.std.specs.Prelude.{All, Contains}
 use Rattle.std.proofs.lemmas.Bool.{cases_eq}
 use Rattle.std.proofs.lemmas.List.{get_or_default}
-use Rattle.std.proofs.lemmas.List.Elements.{All-nil, All-push, All-contains, Contains-get_or, Contains-append_left, Contains-push}
+use Rattle.std.proofs.lemmas.List.Elements.{All-push, All-contains, Contains-get_or, Contains-append_left, Contains-push}
 use Rattle.rt_rows.specs.declared.name.Name.{Name}
 use Rattle.rt_rows.specs.declared.name.Name.TheVariants.{Lo}
 use Rattle.rt_rows.specs.Order.{ListsNames, ArePutInOrder}
-use Rattle.rt_nets.specs.declared.job.Job.{Job}
+use Rattle.rt_view.specs.declared.job.Job.{Job}
 use Rattle.rt_template.specs.Horizontal.{HasAcross}
 use Rattle.rt_htemplate.specs.Candidates.{HoldAllNames, AreThoseThere}
 

@@ -4,3 +4,4 @@ pub mod InRows
 pub mod Kept
 pub mod Offers
 pub mod Pairs
+pub mod Reached

@@ -1,39 +1,23 @@
 -- The names that are offered hold all of the template.
-use Rattle.std.proofs.Common.{◌≡◌, ℕ, ◌+◌, ◌≤◌, List, ◌++◌, length, refl, sym, subst, ◌∙◌, arith, inl, inr}
+use Rattle.std.proofs.Common.{◌≡◌, ℕ, List, length, refl, sym, subst, ◌∙◌, arith, inl, inr}
 use Rattle.std.specs.Prelude.{Contains}
-use Rattle.std.proofs.lemmas.Bool.{cases_eq}
 use Rattle.std.proofs.lemmas.List.{get_or_default}
-use Rattle.std.proofs.lemmas.List.Elements.{Contains-append_left, Contains-append_right}
 use Rattle.rt_strips.proofs.Marks.{standing_seam}
 use Rattle.rt_rows.specs.declared.name.Name.{Name}
-use Rattle.rt_rows.specs.declared.name.Name.TheVariants.{Lo, Hi, Zero, Top, Wide, Ll, Rr, Share, Gap}
+use Rattle.rt_rows.specs.declared.name.Name.TheVariants.{Lo, Hi, Zero, Top, Wide, Size, Ll, Rr, Share, Gap, Off, Inl, Inr}
 use Rattle.rt_rows.specs.declared.row.Row.{Row}
-use Rattle.rt_nets.specs.declared.job.Job.{Job}
-use Rattle.rt_nets.specs.Job.{strips_of}
+use Rattle.rt_view.specs.declared.job.Job.{Job}
+use Rattle.rt_view.specs.Job.{strips_of}
 use Rattle.rt_strips.specs.declared.contact.Seam.{Seam}
 use Rattle.rt_strips.specs.Placed.{Placed}
 use Rattle.rt_strips.specs.Standing.{IsStrip, Touch}
 use Rattle.rt_strips.specs.Seams.{AreSeamsOf}
 use Rattle.rt_template.specs.Horizontal.{RowAcross}
-use Rattle.rt_htemplate.specs.Candidates.{names_of_strip, names_of_seam, names_of_pair, names_at_seam, seam_at, pair_at, names_at_pair, AreOffered, AreOfferedAtSeams, AreOfferedForKept, HoldAllNames}
+use Rattle.rt_between.specs.Offers.{pair_at, AreOffered}
+use Rattle.rt_htemplate.specs.Candidates.{names_of_strip, names_of_seam, names_of_pair, names_at_seam, seam_at, names_at_pair, AreOfferedAtSeams, AreOfferedForKept, HoldAllNames}
 use Rattle.rt_htemplate.specs.Near.{HoldKeptPairs}
-
--- those for one more
-pub more_offered : (names_of : ℕ → List Name) (n : ℕ) (before after : List Name) → AreOffered names_of n before after → AreOffered names_of (n + 1) before (after ++ names_of n)
-more_offered names_of n before after are = record {
-  kept = λ name c. Contains-append_left after (names_of n) name (are.kept name c);
-  offered = λ k h name c. elim (cases_eq k n) [
-    | inl e ↦ Contains-append_right after (names_of n) name (subst (λ m. Contains (names_of m) name) e c)
-    | inr o ↦ Contains-append_left after (names_of n) name (are.offered k (omega (arith, h, o)) name c)
-  ];
-}
-
--- when all have been seen
-pub all_offered : (names_of : ℕ → List Name) (n count : ℕ) (before after : List Name) → count ≤ n → AreOffered names_of n before after → AreOffered names_of count before after
-all_offered names_of n count before after h are = record {
-  kept = are.kept;
-  offered = λ k g name c. are.offered k (omega (arith, g, h)) name c;
-}
+use Rattle.rt_htemplate.specs.Wanted.{IsOfDistance, IsOfEnclosure, AreOfferedBetween}
+use Rattle.rt_template.proofs.Sides.{there_apart, there_enclose}
 
 -- the seams' names are those of each seam of the strips
 pub at_seams : (strips : List Placed) (seams : List Seam) (before after : List Name) → AreSeamsOf strips seams → AreOffered (names_at_seam seams) (length seams) before after
@@ -65,18 +49,18 @@ for_kept job pairs before after hold offered = record {
   ];
 }
 
-module _ (job : Job) (first strips seams all : List Name) (zero_there : Contains first Zero) (top_there : Contains first Top)
+module _ (job : Job) (first strips seams kept all : List Name) (zero_there : Contains first Zero) (top_there : Contains first Top)
     (of_strips : AreOffered names_of_strip (length (strips_of job)) first strips) (of_seams : AreOfferedAtSeams (strips_of job) strips seams)
-    (of_kept : AreOfferedForKept job seams all) where
+    (of_kept : AreOfferedForKept job seams kept) (between : AreOfferedBetween job kept all) where
   from_first : (name : Name) → Contains first name → Contains all name
-  from_first name c = of_kept.kept name (of_seams.kept name (of_strips.kept name c))
+  from_first name c = between.kept name (of_kept.kept name (of_seams.kept name (of_strips.kept name c)))
 
   from_strip : (i : ℕ) (name : Name) → IsStrip (strips_of job) i → Contains (names_of_strip i) name → Contains all name
-  from_strip i name s c = of_kept.kept name (of_seams.kept name (of_strips.offered i s.below_count name c))
+  from_strip i name s c = between.kept name (of_kept.kept name (of_seams.kept name (of_strips.offered i s.below_count name c)))
 
   from_touch : (i j : ℕ) (name : Name) → Touch (strips_of job) i j → Contains (names_of_seam i j) name → Contains (names_of_seam j i) name → Contains all name
-  from_touch i j name (inl s) c d = of_kept.kept name (of_seams.offered i j (standing_seam (strips_of job) i j s) name c)
-  from_touch i j name (inr s) c d = of_kept.kept name (of_seams.offered j i (standing_seam (strips_of job) j i s) name d)
+  from_touch i j name (inl s) c d = between.kept name (of_kept.kept name (of_seams.offered i j (standing_seam (strips_of job) i j s) name c))
+  from_touch i j name (inr s) c d = between.kept name (of_kept.kept name (of_seams.offered j i (standing_seam (strips_of job) j i s) name d))
 
   offered_row : (name : Name) (row : Row) → RowAcross job name row → Contains all name
   offered_row name row (RowAcross.lo i s) = from_strip i (Lo i) s (0, omega arith, refl)
@@ -87,7 +71,11 @@ module _ (job : Job) (first strips seams all : List Name) (zero_there : Contains
   offered_row name row (RowAcross.ll i j t _) = from_touch i j (Ll i j) t (0, omega arith, refl) (1, omega arith, refl)
   offered_row name row (RowAcross.rr i j t _) = from_touch i j (Rr i j) t (2, omega arith, refl) (3, omega arith, refl)
   offered_row name row (RowAcross.share i j t _ _) = from_touch i j (Share i j) t (4, omega arith, refl) (5, omega arith, refl)
-  offered_row name row (RowAcross.gap i j k) = of_kept.offered i j k
+  offered_row name row (RowAcross.gap i j k) = between.kept (Gap i j) (of_kept.offered i j k)
+  offered_row name row (RowAcross.size i c) = from_strip i (Size i) c.strip (3, omega arith, refl)
+  offered_row name row (RowAcross.off q i j k) = between.distances q (there_apart job q i j k.sides) (Off q i j) (IsOfDistance.off i j k)
+  offered_row name row (RowAcross.inl q i h k) = between.enclosures q (there_enclose job q i h k) (Inl q i h) (IsOfEnclosure.left i h k)
+  offered_row name row (RowAcross.inr q i h k) = between.enclosures q (there_enclose job q i h k) (Inr q i h) (IsOfEnclosure.right i h k)
 
   pub hold_all : HoldAllNames job all
   hold_all = record { every = λ name a. offered_row name a.0 a.1 }

@@ -1,6 +1,5 @@
 -- Strips that keep their distance across are near each other in rows.
-use Rattle.std.proofs.Common.{◌≡◌, ℕ, ◌<◌, ℤ, pos, ◌≤ℤ◌, ◌<ℤ◌, List, length, map, get_or, sym, ap, subst, subst₂, ◌∙◌, arith, inl, inr}
-use Rattle.std.specs.Prelude.{All}
+use Rattle.std.proofs.Common.{◌≡◌, ℕ, ◌<◌, ℤ, pos, ◌≤ℤ◌, ◌<ℤ◌, List, length, map, get_or, sym, ap, subst, ◌∙◌, arith, inl, inr}
 use Rattle.std.specs.Int.{int_max, int_min}
 use Rattle.std.proofs.lemmas.Bool.{cases_order}
 use Rattle.std.proofs.lemmas.Int.{ints, clamps}
@@ -11,27 +10,17 @@ use Rattle.rt_cells.proofs.Lines.{gap_back}
 use Rattle.rt_tech.specs.declared.table.Mask.{Mask}
 use Rattle.rt_tech.specs.declared.table.Tech.{Tech}
 use Rattle.rt_tech.specs.Tech.{mask_count, space_of, space_of_mask}
-use Rattle.rt_near.specs.declared.near.Sides.{Sides}
-use Rattle.rt_near.specs.Near.{IsInterval, no_sides, AreNear as AreNearSides, ListsNearPairs}
-use Rattle.rt_nets.specs.declared.job.Job.{Job}
-use Rattle.rt_nets.specs.Job.{strips_of, IsJob}
-use Rattle.rt_strips.specs.declared.listing.Strip.{Strip}
-use Rattle.rt_strips.specs.Placed.{Placed, placed, strip_at, mask_of, left_of, right_of, bottom_of, top_of}
+use Rattle.rt_near.specs.Near.{AreNear as AreNearSides, ListsNearPairs}
+use Rattle.rt_view.specs.declared.job.Job.{Job}
+use Rattle.rt_view.specs.Job.{strips_of, IsJob}
+use Rattle.rt_strips.specs.Placed.{strip_at, mask_of, left_of, right_of, bottom_of, top_of}
 use Rattle.rt_strips.specs.Standing.{rows_apart}
-use Rattle.rt_strips.proofs.Placed.{strip_is, strip_below}
+use Rattle.rt_strips.proofs.Placed.{strip_below}
 use Rattle.rt_template.specs.Horizontal.{IsKeptRightOf, AreNear, near_between}
-use Rattle.rt_htemplate.specs.Near.{side_of, space_in, HoldKeptPairs}
-
--- a rectangle's rows, grouped by its mask
-abbrev rows_of : Placed → Sides
-rows_of p = record { group = p.mask; low = p.area.bottom; high = p.area.top }
-
-side_is : (strips : List Strip) (i : ℕ) → i < length strips → get_or (map side_of strips) i no_sides ≡ rows_of (strip_at (map placed strips) i)
-side_is strips i h =
-    elim (slice_get_cases strips i).1 [
-      | inl (x, lt, is, at) ↦ get_or-map side_of strips i x no_sides lt ∙ ap side_of at ∙ sym (ap rows_of (strip_is strips i x lt (sym at)))
-      | inr (past, is) ↦ absurd (omega (arith, past, h))
-    ]
+use Rattle.rt_between.specs.Pairing.{side_of}
+use Rattle.rt_between.proofs.Grouped.{near_sides}
+use Rattle.rt_between.proofs.Among.{rows_of, side_is}
+use Rattle.rt_htemplate.specs.Near.{space_in, HoldKeptPairs}
 
 space_is : (tech : Tech) (m : ℕ) → m < mask_count tech → get_or (map space_in tech.masks) m (pos 0) ≡ space_of tech m
 space_is tech m h =
@@ -40,30 +29,11 @@ space_is tech m h =
       | inr (past, is) ↦ absurd (omega (arith, past, h))
     ]
 
--- each strip has a row
-pub all_intervals : (strips : List Strip) → All IsInterval (map side_of strips)
-all_intervals strips k d h =
-    let l : k < length strips = omega (arith, h, length-map strips side_of) in
-    elim (slice_get_cases strips k).1 [
-      | inl (x, lt, is, at) ↦ subst IsInterval (sym (get_or-map side_of strips k x d lt)) (record { some = (get_or strips k x).at.upwards })
-      | inr (past, is) ↦ absurd (omega (arith, past, l))
-    ]
-
 no_gap : (b t b' t' s : ℤ) → int_max b b' <ℤ int_min t t' → pos 1 ≤ℤ s → gap_of b t b' t' <ℤ s
 no_gap b t b' t' s h g = omega (arith, ints, clamps)
 
 not_beside : (l r : ℤ) → l <ℤ r → r ≤ℤ l → ⊥
 not_beside l r h g = omega (arith, ints)
-
-near_sides : (sides : List Sides) (reaches : List ℤ) (i j : ℕ) (p q : Sides) → get_or sides i no_sides ≡ p → get_or sides j no_sides ≡ q → i < j → j < length sides
-    → p.group ≡ q.group → p.group < length reaches → gap_of p.low p.high q.low q.high <ℤ get_or reaches p.group (pos 0) → AreNearSides sides reaches i j
-near_sides sides reaches i j p q e f h g one group near = record {
-  ordered = h;
-  there = g;
-  one_group = subst₂ (λ (s t : Sides). s.group ≡ t.group) (sym e) (sym f) one;
-  group = subst (λ (s : Sides). s.group < length reaches) (sym e) group;
-  near = subst₂ (λ (s t : Sides). gap_of s.low s.high t.low t.high <ℤ get_or reaches s.group (pos 0)) (sym e) (sym f) near;
-}
 
 module _ (job : Job) (is : IsJob job) where
   some_space : (m : ℕ) → m < mask_count job.source → pos 1 ≤ℤ space_of job.source m

@@ -1,7 +1,7 @@
 -- A strip that the code reads is that of its number.
 use Rattle.std.proofs.Common.{◌≡◌, ℕ, List, get_or, ap, ◌∙◌, inl, inr}
-use Rattle.rt_nets.specs.declared.job.Job.{Job}
-use Rattle.rt_nets.specs.Job.{strips_of}
+use Rattle.rt_view.specs.declared.job.Job.{Job}
+use Rattle.rt_view.specs.Job.{strips_of}
 use Rattle.rt_strips.specs.declared.listing.Strip.{Strip}
 use Rattle.rt_strips.specs.Placed.{Placed, placed, strip_at}
 use Rattle.rt_strips.specs.Standing.{IsStrip, Touch}

@@ -1,5 +1,5 @@
 -- What is asked of strips to tell whether the template across has a row.
-use Rattle.std.specs.Prelude.{◌≡◌, ℕ, ◌≤ℤ◌, ◌<ℤ◌, Option, MatchOption, List}
+use Rattle.std.specs.Prelude.{◌≡◌, ℕ, ℤ, ◌≤ℤ◌, ◌<ℤ◌, Option, MatchOption, List}
 use Rattle.std.specs.Int.{int_max, int_min}
 use Rattle.rt_tech.specs.declared.table.Tech.{Tech}
 use Rattle.rt_tech.specs.Tech.{width_of, space_of}
@@ -7,9 +7,10 @@ use Rattle.rt_rows.specs.declared.row.Row.{Row}
 use Rattle.rt_rows.specs.declared.row.Var.TheVariants.{L, R}
 use Rattle.rt_rows.specs.declared.name.Name.{Name}
 use Rattle.rt_rows.specs.Rows.{beyond}
-use Rattle.rt_nets.specs.declared.job.Job.{Job}
+use Rattle.rt_view.specs.declared.job.Job.{Job}
+use Rattle.rt_view.specs.Job.{strips_of}
 use Rattle.rt_cells.specs.Line.{gap_of}
-use Rattle.rt_strips.specs.Placed.{Placed}
+use Rattle.rt_strips.specs.Placed.{Placed, strip_at}
 use Rattle.rt_strips.specs.Standing.{IsClimbed}
 use Rattle.rt_template.specs.Horizontal.{RowAcross, kept_behind}
 
@@ -50,6 +51,15 @@ IsShared target i j a b found = MatchOption found (¬ LeansRight a b) (SharesWid
 -- the second begins where the first ends, or behind it
 pub record LieBeside (a b : Placed) : Type 0 where
   pub beside : a.area.right ≤ℤ b.area.left
+
+-- the second begins where the first ends, or behind it, and fewer rows than the number lie between them
+pub record LiesOff (a b : Placed) (number : ℤ) : Type 0 where
+  pub beside : LieBeside a b
+  pub few : gap_of a.area.bottom a.area.top b.area.bottom b.area.top <ℤ number
+
+-- the same of two strips by their numbers
+abbrev pub StripsLieOff : (job : Job) (number : ℤ) (i j : ℕ) → Type 0
+StripsLieOff job number i j = LiesOff (strip_at (strips_of job) i) (strip_at (strips_of job) j) number
 
 -- the two have a common row
 pub record HaveRow (a b : Placed) : Type 0 where

@@ -1,16 +1,17 @@
 -- Names that are offered to the template across.
-use Rattle.std.specs.Prelude.{ℕ, ◌<◌, List, [], ◌∷◌, All, Contains, slice_index_or}
+use Rattle.std.specs.Prelude.{ℕ, List, [], ◌∷◌, All, Contains, slice_index_or}
 use Rattle.rt_rows.specs.declared.name.Name.{Name}
-use Rattle.rt_rows.specs.declared.name.Name.TheVariants.{Lo, Hi, Wide, Ll, Rr, Share, Gap}
-use Rattle.rt_nets.specs.declared.job.Job.{Job}
+use Rattle.rt_rows.specs.declared.name.Name.TheVariants.{Lo, Hi, Wide, Size, Ll, Rr, Share, Gap, Off, Inl, Inr}
+use Rattle.rt_view.specs.declared.job.Job.{Job}
 use Rattle.rt_strips.specs.declared.contact.Seam.{Seam}
 use Rattle.rt_strips.specs.Placed.{Placed}
 use Rattle.rt_strips.specs.Seams.{IsSeam}
+use Rattle.rt_between.specs.Offers.{pair_at}
 use Rattle.rt_template.specs.Horizontal.{HasAcross, IsKeptRightOf}
 
 -- the names for a strip
 abbrev pub names_of_strip : ℕ → List Name
-names_of_strip i = Lo i ∷ Hi i ∷ Wide i ∷ []
+names_of_strip i = Lo i ∷ Hi i ∷ Wide i ∷ Size i ∷ []
 
 -- the names for a strip that ends where another begins
 abbrev pub names_of_seam : ℕ → ℕ → List Name
@@ -27,16 +28,22 @@ seam_at seams k = slice_index_or seams k (record { below = 0; above = 0 })
 abbrev pub names_at_seam : List Seam → ℕ → List Name
 names_at_seam seams k = names_of_seam (seam_at seams k).below (seam_at seams k).above
 
-abbrev pub pair_at : List (ℕ × ℕ) → ℕ → ℕ × ℕ
-pair_at pairs k = slice_index_or pairs k (0, 0)
-
 abbrev pub names_at_pair : List (ℕ × ℕ) → ℕ → List Name
 names_at_pair pairs k = names_of_pair (pair_at pairs k).0 (pair_at pairs k).1
 
--- the names for the first so many are added
-pub record AreOffered (names_of : ℕ → List Name) (n : ℕ) (before after : List Name) : Type 0 where
-  pub kept : (name : Name) → Contains before name → Contains after name
-  pub offered : (k : ℕ) → k < n → (name : Name) → Contains (names_of k) name → Contains after name
+-- the names by distance q for two strips that are near, and for the pair of a number
+abbrev pub names_off : ℕ → ℕ × ℕ → List Name
+names_off q pair = Off q pair.0 pair.1 ∷ Off q pair.1 pair.0 ∷ []
+
+abbrev pub names_off_at : ℕ → List (ℕ × ℕ) → ℕ → List Name
+names_off_at q pairs k = names_off q (pair_at pairs k)
+
+-- the names by enclosure q for two strips that are near, and for the pair of a number
+abbrev pub names_in : ℕ → ℕ × ℕ → List Name
+names_in q pair = Inl q pair.0 pair.1 ∷ Inl q pair.1 pair.0 ∷ Inr q pair.0 pair.1 ∷ Inr q pair.1 pair.0 ∷ []
+
+abbrev pub names_in_at : ℕ → List (ℕ × ℕ) → ℕ → List Name
+names_in_at q pairs k = names_in q (pair_at pairs k)
 
 -- the names for each seam of the strips are added
 pub record AreOfferedAtSeams (strips : List Placed) (before after : List Name) : Type 0 where

@@ -1,14 +1,8 @@
--- Strips near each other in rows, as intervals of rows.
+-- Strips that keep their distance across, among pairs.
 use Rattle.std.specs.Prelude.{ℕ, ℤ, ◌⊎◌, List, Contains}
 use Rattle.rt_tech.specs.declared.table.Mask.{Mask}
-use Rattle.rt_near.specs.declared.near.Sides.{Sides}
-use Rattle.rt_nets.specs.declared.job.Job.{Job}
-use Rattle.rt_strips.specs.declared.listing.Strip.{Strip}
+use Rattle.rt_view.specs.declared.job.Job.{Job}
 use Rattle.rt_template.specs.Horizontal.{IsKeptRightOf}
-
--- the rows of a strip, grouped by its mask
-abbrev pub side_of : Strip → Sides
-side_of strip = record { group = strip.mask; low = strip.at.y1; high = strip.at.y2 }
 
 -- a mask's space
 abbrev pub space_in : Mask → ℤ

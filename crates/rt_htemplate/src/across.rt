@@ -2,16 +2,17 @@
 ghost use Rattle.std.specs.Prelude.{◌≡◌, ℕ, ◌<◌, MatchBool, MatchOption};
 ghost use Rattle.rt_rows.specs.declared.row.Row.{Row};
 ghost use Rattle.rt_rows.specs.declared.name.Name.TheVariants.{Lo, Hi, Wide, Ll, Rr, Share, Gap};
-ghost use Rattle.rt_nets.specs.Job.{IsJob, strips_of};
+ghost use Rattle.rt_view.specs.Job.{IsJob, strips_of};
 ghost use Rattle.rt_strips.specs.Table.{AreClimbsOf};
 ghost use Rattle.rt_template.specs.Horizontal.{RowAcross, HasAcross};
 ghost use Rattle.rt_htemplate.specs.Asked.{IsRowOf};
 
 use crate::beside::is_kept_right_of;
+use crate::masks::{inl, inr, off, size};
 use crate::pair::{is_strip, left_kept, right_kept, shared, touch};
-use rt_nets::Job;
 use rt_rows::{EXTENT_LIMIT, Name, Row, Var};
 use rt_tech::{space_of, width_of};
+use rt_view::Job;
 
 /// The row of that name in the template across, where the template has it. It takes no memory. (This project's own.)
 pub fn has_row_h(job: &Job, name: Name) -> Option<Row>
@@ -24,10 +25,14 @@ pub fn has_row_h(job: &Job, name: Name) -> Option<Row>
         Name::Zero => Some(Row::at_least(Var::Width, 0)),
         Name::Top => Some(Row::at_most(Var::Width, EXTENT_LIMIT)),
         Name::Wide(i) => wide(job, i),
+        Name::Size(i) => size(job, i),
         Name::Ll(i, j) => ll(job, i, j),
         Name::Rr(i, j) => rr(job, i, j),
         Name::Share(i, j) => share(job, i, j),
         Name::Gap(i, j) => gap(job, i, j),
+        Name::Off(q, i, j) => off(job, q, i, j),
+        Name::Inl(q, i, h) => inl(job, q, i, h),
+        Name::Inr(q, i, h) => inr(job, q, i, h),
         _ => None,
     }
 }

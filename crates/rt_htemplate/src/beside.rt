@@ -1,6 +1,6 @@
 //! Which strips keep their distance.
 ghost use Rattle.std.specs.Prelude.{◌≡◌, ◌<◌, length, MatchBool};
-ghost use Rattle.rt_nets.specs.Job.{strips_of};
+ghost use Rattle.rt_view.specs.Job.{strips_of};
 ghost use Rattle.rt_strips.specs.Placed.{placed};
 ghost use Rattle.rt_strips.specs.Standing.{IsStrip};
 ghost use Rattle.rt_strips.specs.Table.{AreClimbsOf};
@@ -9,9 +9,9 @@ ghost use Rattle.rt_htemplate.specs.Asked.{HaveRow, LieBeside, AreFewRowsApart, 
 
 use crate::pair::{is_strip, touch};
 use rt_base::gap_y;
-use rt_nets::Job;
 use rt_strips::Strip;
 use rt_tech::{Tech, space_of};
+use rt_view::Job;
 
 // Whether strip j lies right of strip i, doesn't touch it, and is near it in rows.
 pub(crate) fn is_kept_right_of(job: &Job, i: u32, j: u32) -> bool
@@ -41,7 +41,7 @@ fn are_of_one_drawn_mask(job: &Job, i: u32, j: u32) -> bool
 }
 
 // Whether the second strip begins where the first ends, or behind it.
-fn lie_beside(first: &Strip, second: &Strip) -> bool
+pub(crate) fn lie_beside(first: &Strip, second: &Strip) -> bool
     ensures { MatchBool result (LieBeside (placed first.now) (placed second.now)) (¬ LieBeside (placed first.now) (placed second.now)) }
 {
     first.at.x2 <= second.at.x1

@@ -4,6 +4,9 @@
 mod across;
 mod beside;
 mod candidates;
+mod distances;
+mod enclosures;
+mod masks;
 mod names;
 mod near;
 mod pair;

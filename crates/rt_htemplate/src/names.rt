@@ -1,15 +1,15 @@
 //! The names of the template across.
 ghost use Rattle.std.specs.Prelude.{IfOk};
 ghost use Rattle.rt_rows.specs.Order.{ListsNames};
-ghost use Rattle.rt_nets.specs.Job.{IsJob};
+ghost use Rattle.rt_view.specs.Job.{IsJob};
 ghost use Rattle.rt_template.specs.Horizontal.{HasAcross};
 ghost use Rattle.rt_htemplate.specs.Candidates.{AreThoseThere};
 
 use crate::across::has_name_h;
 use crate::candidates::candidates;
 use rt_base::{List, OutOfMemory};
-use rt_nets::Job;
 use rt_rows::{Name, put_in_order};
+use rt_view::Job;
 use std::alloc::Global;
 
 /// The names of the template across, in its order, each once. It takes the time of a sort of the strips, of their seams and of the pairs that

@@ -1,13 +1,13 @@
 //! Strips that are near each other in rows.
 ghost use Rattle.std.specs.Prelude.{◌≡◌, map, IfOk};
-ghost use Rattle.rt_nets.specs.Job.{IsJob};
-ghost use Rattle.rt_htemplate.specs.Near.{side_of, space_in, HoldKeptPairs};
+ghost use Rattle.rt_view.specs.Job.{IsJob};
+ghost use Rattle.rt_htemplate.specs.Near.{space_in, HoldKeptPairs};
 
 use rt_base::{List, OutOfMemory};
-use rt_near::{Sides, near_pairs};
-use rt_nets::Job;
-use rt_strips::Strip;
+use rt_between::rows_of;
+use rt_near::near_pairs;
 use rt_tech::Tech;
+use rt_view::Job;
 use std::alloc::Global;
 
 // The numbers of strips of one mask between which fewer rows lie than the source's space: among them each two that keep their distance across.
@@ -15,24 +15,9 @@ pub(crate) fn near_strips(alloc: Global, job: &Job) -> Result<List<(u32, u32)>, 
     requires job { IsJob job.now }
     ensures { IfOk result (HoldKeptPairs job.now) }
 {
-    let sides = sides_of(alloc, job.view.strips.list.as_slice())?;
+    let sides = rows_of(alloc, job.view.strips.list.as_slice())?;
     let spaces = spaces_of(alloc, &job.source)?;
     near_pairs(alloc, sides.as_slice(), spaces.as_slice())
-}
-
-// The rows of the strips, grouped by masks.
-fn sides_of(alloc: Global, strips: &[Strip]) -> Result<Vec<Sides>, OutOfMemory>
-    ensures { IfOk result (λ sides. sides.items ≡ map side_of strips.now) }
-{
-    let sides = strips
-        .iter()
-        .map(|strip| Sides {
-            group: strip.mask,
-            low: strip.at.y1,
-            high: strip.at.y2,
-        })
-        .collect(alloc)?;
-    Ok(sides)
 }
 
 // The spaces of the masks.

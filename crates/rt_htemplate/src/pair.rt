@@ -1,14 +1,14 @@
 //! Tests on one strip and on two, and the rows of two that touch.
 ghost use Rattle.std.specs.Prelude.{◌≡◌, ◌<◌, length, MatchBool};
-ghost use Rattle.rt_nets.specs.Job.{strips_of};
+ghost use Rattle.rt_view.specs.Job.{strips_of};
 ghost use Rattle.rt_strips.specs.Placed.{placed};
 ghost use Rattle.rt_strips.specs.Standing.{IsStrip, Touch};
 ghost use Rattle.rt_htemplate.specs.Asked.{IsLeftKept, IsRightKept, IsShared};
 
-use rt_nets::Job;
 use rt_rows::{Row, Var};
 use rt_strips::{Strip, touching};
 use rt_tech::{Tech, width_of};
+use rt_view::Job;
 
 // Whether there is a strip of that number.
 pub(crate) fn is_strip(job: &Job, i: u32) -> bool

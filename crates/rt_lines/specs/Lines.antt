@@ -5,6 +5,7 @@ use Rattle.std.specs.Fmt.{signed_decimal}
 use Rattle.rt_base.specs.declared.plane.Axis.{Axis}
 use Rattle.rt_base.specs.declared.plane.Axis.TheVariants.{Across, Upwards}
 use Rattle.rt_base.specs.declared.plane.Cell.{Cell}
+use Rattle.rt_base.specs.declared.plane.Rect.{Rect}
 use Rattle.gds_grammar.specs.declared.cause.Cause.{Cause}
 use Rattle.gds_grammar.specs.declared.cause.Cause.TheVariants.{Short, OddLength, LengthBelow4, UnknownType, WrongData, Unexpected, BadText, NotClosed, DuplicateName}
 use Rattle.rt_tech.specs.declared.table.TableCause.{TableCause}
@@ -127,6 +128,14 @@ too_deep_line = line (codes "too deep" ∷ [])
 -- the two numbers of a cell
 abbrev pub cell_parts : Cell → List (List ℕ) → List (List ℕ)
 cell_parts cell parts = signed_decimal cell.x ∷ codes " " ∷ signed_decimal cell.y ∷ parts
+
+-- the four sides of a rectangle: left, bottom, right and top
+abbrev pub rect_parts : Rect → List (List ℕ)
+rect_parts rect = signed_decimal rect.x1 ∷ codes " " ∷ signed_decimal rect.y1 ∷ codes " " ∷ signed_decimal rect.x2 ∷ codes " " ∷ signed_decimal rect.y2 ∷ []
+
+-- the source has a shape that a sound one doesn't have, and the rectangle shows it
+abbrev pub source_shape_line : List ℕ → Rect → List ℕ
+source_shape_line shape rect = line (codes "source shape: " ∷ shape ∷ codes " at " ∷ rect_parts rect)
 
 -- between which cells a rule is broken, and what was found and needed
 abbrev pub breach_parts : Cell → Cell → ℤ → ℤ → List (List ℕ)

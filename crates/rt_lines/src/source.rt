@@ -1,12 +1,12 @@
-//! The lines on the source: its stream, its flattening, and the rules that it breaks.
+//! The lines on the source: its stream, its flattening, its shapes, and the rules that it breaks.
 ghost use Rattle.std.specs.List.{flat_map};
 ghost use Rattle.rt_lines.specs.Said.{SaysLine};
-ghost use Rattle.rt_lines.specs.Lines.{bad_stream_line, unsupported_line, no_such_structure_line, named, cyclic_line, unmapped_layer_line, array_step_line, coordinate_range_line, too_deep_line, line, breach_parts, source_rule_line, too_many_line};
+ghost use Rattle.rt_lines.specs.Lines.{bad_stream_line, unsupported_line, no_such_structure_line, named, cyclic_line, unmapped_layer_line, array_step_line, coordinate_range_line, too_deep_line, line, source_shape_line, breach_parts, source_rule_line, too_many_line};
 
 use crate::pieces::{Piece, say_pieces};
 use crate::words::{rule_word, stream_cause};
 use gds_grammar::Cause;
-use rt_base::{Cell, Text};
+use rt_base::{Cell, Rect, Text};
 use rt_desk::{Desk, DeskError};
 use rt_tech::RuleName;
 
@@ -148,6 +148,33 @@ pub fn say_too_deep<D: Desk>(desk: &mut D) -> Result<(), DeskError>
     ensures { SaysLine (D.seen desk.old) (D.seen desk.new) too_deep_line result }
 {
     say_pieces(desk, &[Piece::Word("too deep"), Piece::Word("\n")])
+}
+
+/// Says `source shape: SHAPE at X1 Y1 X2 Y2`: the source has the shape that the word says, which a sound one doesn't have, and the rectangle shows it; its
+/// sides are in database units of the source. Errors are those of `say_pieces`.
+pub fn say_source_shape<'a, D: Desk>(
+    desk: &mut D,
+    shape: &'a str,
+    rect: &'a Rect,
+) -> Result<(), DeskError>
+    ensures { SaysLine (D.seen desk.old) (D.seen desk.new) (source_shape_line shape.now rect.now) result }
+{
+    say_pieces(
+        desk,
+        &[
+            Piece::Word("source shape: "),
+            Piece::Word(shape),
+            Piece::Word(" at "),
+            Piece::Number(&rect.x1),
+            Piece::Word(" "),
+            Piece::Number(&rect.y1),
+            Piece::Word(" "),
+            Piece::Number(&rect.x2),
+            Piece::Word(" "),
+            Piece::Number(&rect.y2),
+            Piece::Word("\n"),
+        ],
+    )
 }
 
 /// Says `source rule: RULE at PX PY and QX QY: found F, needed G`, where RULE is the kind of the rule and behind it the names of its masks, as

@@ -10,7 +10,7 @@ none_in_nothing : (x : ℕ) → Contains [] x → ⊥
 none_in_nothing x (k, l, e) = omega (arith, l)
 
 -- what is in a list of one is that one
-pub only_one : (i x : ℕ) → Contains (i ∷ []) x → i ≡ x
+only_one : (i x : ℕ) → Contains (i ∷ []) x → i ≡ x
 only_one i x c = elim (Contains-push_cases [] i x c) [ inl d ↦ absurd (none_in_nothing x d) | inr e ↦ e ]
 
 module _ (member : ℕ → Type 0) (box : ℕ → Rectangle) where

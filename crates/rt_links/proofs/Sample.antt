@@ -1,15 +1,14 @@
 -- Two metals with a cut between them are carried.
-use Rattle.std.proofs.Common.{◌≡◌, ℕ, zero, suc, ◌<◌, ℤ, pos, ◌+ℤ◌, ◌≤ℤ◌, [], ◌∷◌, Contains, refl, sym, ap, ◌∙◌, subst, arith, inl}
+use Rattle.std.proofs.Common.{◌≡◌, ℕ, zero, suc, ◌<◌, ℤ, pos, ◌+ℤ◌, ◌≤ℤ◌, IsTrue, refl, sym, ap, ◌∙◌, subst, arith, inl}
+use Rattle.std.proofs.lemmas.Bool.Decides.{nat_tests}
 use Rattle.std.proofs.lemmas.Int.{ints}
 use Rattle.rt_cells.specs.Rectangles.{Rectangle, IsNonempty, Holds}
 use Rattle.rt_cells.proofs.Lines.{past_one}
 use Rattle.rt_family.specs.Strips.{StandsOn}
 use Rattle.rt_family.specs.Carried.{IsCarried}
-use Rattle.rt_family.proofs.Chains.{Contains-head, Contains-rest}
 use Rattle.rt_cuts.specs.Cuts.{grown}
 use Rattle.rt_links.specs.Wires.{OfMask, IsKeptWithin, IsKeptCut}
 use Rattle.rt_links.specs.Sample.{two_metals, source_of, drawn_of, TwoMetalsAreCarried}
-use Rattle.rt_links.proofs.Chains.{only_one}
 
 full : (i : ℕ) → IsNonempty (source_of i)
 full zero = record { across = omega (arith, ints); upwards = omega (arith, ints) }
@@ -73,7 +72,7 @@ in_square x y h = record {
 }
 
 -- the cut is kept within a metal that is as the lower one
-kept_within : (m : ℕ) → m < 3 → Contains two_metals.conducting m → source_of m ≡ source_of 0 → drawn_of m ≡ drawn_of 0 → IsKeptWithin two_metals source_of drawn_of 2 m
+kept_within : (m : ℕ) → m < 3 → IsTrue (two_metals.conducting m) → source_of m ≡ source_of 0 → drawn_of m ≡ drawn_of 0 → IsKeptWithin two_metals source_of drawn_of 2 m
 kept_within m below conducts e f = record {
   conducts = conducts;
   near = pos 1;
@@ -93,9 +92,12 @@ cut_kept : IsKeptCut two_metals source_of drawn_of 2
 cut_kept = record {
   source_cell = full 2;
   drawn_cell = record { across = omega (arith, ints); upwards = omega (arith, ints) };
-  in_upper = kept_within 1 (omega arith) (Contains-rest 0 (1 ∷ []) 1 (Contains-head 1 [])) refl refl;
-  in_lower = kept_within 0 (omega arith) (Contains-head 0 (1 ∷ [])) refl refl;
+  in_upper = kept_within 1 (omega arith) refl refl refl;
+  in_lower = kept_within 0 (omega arith) refl refl refl;
 }
+
+two_is : (c : ℕ) → IsTrue (two_metals.cuts c) → 2 ≡ c
+two_is c k = grind (arith, nat_tests, k)
 
 -- two metals are carried
 pub two_metals_are_carried : TwoMetalsAreCarried
@@ -103,5 +105,5 @@ two_metals_are_carried = record {
   width = λ m. pos 1;
   space = λ m i j. pos 1;
   carried = λ m live. mask_carried m;
-  cuts = λ c k. subst (IsKeptCut two_metals source_of drawn_of) (only_one 2 c k) cut_kept;
+  cuts = λ c k. subst (IsKeptCut two_metals source_of drawn_of) (two_is c k) cut_kept;
 }

@@ -17,6 +17,12 @@ pub linked_back : {V : Type 0} (Join : V → V → Type 0) (u v : V) → AreLink
 linked_back {V} Join u v here = here
 linked_back {V} Join u v (onward p _ b next) = linked_both Join v p u (onward v p here (turned next)) (linked_back Join u p b)
 
+-- a walk over pairs that are joined in another way too
+pub linked_alike : {V : Type 0} (Join Join' : V → V → Type 0) → ((u v : V) → Join u v → Join' u v) → (u v : V) → AreLinked Join u v → AreLinked Join' u v
+linked_alike {V} Join Join' to u v here = here
+linked_alike {V} Join Join' to u v (onward p _ b (inl next)) = onward p v (linked_alike Join Join' to u p b) (inl (to p v next))
+linked_alike {V} Join Join' to u v (onward p _ b (inr next)) = onward p v (linked_alike Join Join' to u p b) (inr (to v p next))
+
 -- spots are of nodes such that neighbours are of linked nodes, and each node has a spot to which all its spots are linked
 pub record AreNodesOf {K V : Type 0} (Next : K → K → Type 0) (Join : V → V → Type 0) (Of : K → V → Type 0) (spot_of : V → K) : Type 0 where
   pub node : (p q : K) → Next p q → ((u : V) × Of p u) × ((v : V) × Of q v)

@@ -1,6 +1,6 @@
 -- Strips are the nodes of the spots of a layout, the source or its drawing: joined where one stands on another in the source, and where a
 -- cut of the source has its lower left cell in both.
-use Rattle.std.proofs.Common.{ℕ, ℤ, ◌⊎◌, Contains, refl, sym, subst, inl, inr}
+use Rattle.std.proofs.Common.{ℕ, ℤ, ◌⊎◌, IsTrue, refl, sym, subst, inl, inr}
 use Rattle.rt_cells.specs.Cells.{Joined}
 use Rattle.rt_cells.specs.Cells.Joined.{here, onward}
 use Rattle.rt_cells.specs.Rectangles.{Rectangle, IsNonempty, Holds}
@@ -32,13 +32,13 @@ HoldsCut wires source c m i = HoldsCell (OfMask wires m) source i (source c).lef
 -- strip j stands on strip i of a mask that conducts
 pub record StandsSomewhere (wires : Wires) (source : ℕ → Rectangle) (i j : ℕ) : Type 0 where
   pub mask : ℕ
-  pub conducts : Contains wires.conducting mask
+  pub conducts : IsTrue (wires.conducting mask)
   pub stands : StandsOn (OfMask wires mask) source i j
 
 -- a cut lies on strip i of the mask above it and on strip j of the mask below it
 pub record IsCutBetween (wires : Wires) (source : ℕ → Rectangle) (i j : ℕ) : Type 0 where
   pub cut : ℕ
-  pub is_cut : Contains wires.cuts cut
+  pub is_cut : IsTrue (wires.cuts cut)
   pub upper : HoldsCut wires source cut (wires.upper cut) i
   pub lower : HoldsCut wires source cut (wires.lower cut) j
 
@@ -49,7 +49,7 @@ AreWired wires source i j = StandsSomewhere wires source i j ⊎ IsCutBetween wi
 module _ (wires : Wires) (source box : ℕ → Rectangle) where
   -- cut c lies in mask m, and its cells there are of strips connected to the one that holds its lower left cell in the source
   pub record IsLaidOn (c m : ℕ) : Type 0 where
-    pub conducts : Contains wires.conducting m
+    pub conducts : IsTrue (wires.conducting m)
     pub cell : IsNonempty (box c)
     pub covered : (x y : ℤ) → Holds (box c) x y → CoveredBy (OfMask wires m) box x y
     pub strip : ℕ
@@ -59,11 +59,11 @@ module _ (wires : Wires) (source box : ℕ → Rectangle) where
 
   -- the strips of each mask that conducts are a family, of which strips stand on each other as in the source, and cuts lie on two of them
   pub record IsWired : Type 0 where
-    pub family : (m : ℕ) → Contains wires.conducting m → IsFamily (OfMask wires m) box
-    pub to_box : (m i j : ℕ) → Contains wires.conducting m → StandsOn (OfMask wires m) source i j → StandsOn (OfMask wires m) box i j
-    pub from_box : (m i j : ℕ) → Contains wires.conducting m → StandsOn (OfMask wires m) box i j → StandsOn (OfMask wires m) source i j
-    pub upper : (c : ℕ) → Contains wires.cuts c → IsLaidOn c (wires.upper c)
-    pub lower : (c : ℕ) → Contains wires.cuts c → IsLaidOn c (wires.lower c)
+    pub family : (m : ℕ) → IsTrue (wires.conducting m) → IsFamily (OfMask wires m) box
+    pub to_box : (m i j : ℕ) → IsTrue (wires.conducting m) → StandsOn (OfMask wires m) source i j → StandsOn (OfMask wires m) box i j
+    pub from_box : (m i j : ℕ) → IsTrue (wires.conducting m) → StandsOn (OfMask wires m) box i j → StandsOn (OfMask wires m) source i j
+    pub upper : (c : ℕ) → IsTrue (wires.cuts c) → IsLaidOn c (wires.upper c)
+    pub lower : (c : ℕ) → IsTrue (wires.cuts c) → IsLaidOn c (wires.lower c)
 
 module _ (wires : Wires) (source box : ℕ → Rectangle) (wired : IsWired wires source box) where
   abbrev Next : Spot → Spot → Type 0
@@ -72,20 +72,20 @@ module _ (wires : Wires) (source box : ℕ → Rectangle) (wired : IsWired wires
   abbrev Join : ℕ → ℕ → Type 0
   Join = AreWired wires source
 
-  connected_linked : (m : ℕ) → Contains wires.conducting m → (i j : ℕ) → AreConnected (OfMask wires m) source i j → AreLinked Join i j
+  connected_linked : (m : ℕ) → IsTrue (wires.conducting m) → (i j : ℕ) → AreConnected (OfMask wires m) source i j → AreLinked Join i j
   connected_linked m live i j (same _) = AreLinked.here
   connected_linked m live i j (up l _ c s) = AreLinked.onward l j (connected_linked m live i l c) (inl (inl (record { mask = m; conducts = live; stands = s })))
   connected_linked m live i j (down l _ c s) = AreLinked.onward l j (connected_linked m live i l c) (inr (inl (record { mask = m; conducts = live; stands = s })))
 
   -- the strips of joined cells of a mask are linked
-  joined_linked : (m : ℕ) → Contains wires.conducting m → (i j : ℕ) (x y u v : ℤ) → HoldsCell (OfMask wires m) box i x y → HoldsCell (OfMask wires m) box j u v
+  joined_linked : (m : ℕ) → IsTrue (wires.conducting m) → (i j : ℕ) (x y u v : ℤ) → HoldsCell (OfMask wires m) box i x y → HoldsCell (OfMask wires m) box j u v
       → Joined (CoveredBy (OfMask wires m) box) x y u v → AreLinked Join i j
   joined_linked m live i j x y u v h k walk =
       connected_linked m live i j (connected_alike (OfMask wires m) box source (λ a b s. wired.from_box m a b live s) i j
       (joined_connected (OfMask wires m) box (wired.family m live) i x y h u v walk j k))
 
   -- joined cells of a mask are linked
-  walk_spots : (m : ℕ) → Contains wires.conducting m → (x y u v : ℤ) → Joined (CoveredBy (OfMask wires m) box) x y u v → AreLinked Next (spot m x y) (spot m u v)
+  walk_spots : (m : ℕ) → IsTrue (wires.conducting m) → (x y u v : ℤ) → Joined (CoveredBy (OfMask wires m) box) x y u v → AreLinked Next (spot m x y) (spot m u v)
   walk_spots m live x y u v (here c) = AreLinked.here
   walk_spots m live x y u v (onward p q _ _ j side c) =
       AreLinked.onward (spot m p q) (spot m u v) (walk_spots m live x y p q j)
@@ -118,7 +118,7 @@ module _ (wires : Wires) (source box : ℕ → Rectangle) (wired : IsWired wires
   ]
 
   -- a cell of a strip is linked to the lower left cell of a strip that it is connected to
-  to_corner_of : (m : ℕ) → Contains wires.conducting m → (i j : ℕ) → AreConnected (OfMask wires m) source i j → (x y : ℤ) → HoldsCell (OfMask wires m) box i x y
+  to_corner_of : (m : ℕ) → IsTrue (wires.conducting m) → (i j : ℕ) → AreConnected (OfMask wires m) source i j → (x y : ℤ) → HoldsCell (OfMask wires m) box i x y
       → AreLinked Next (spot m x y) (corner wires box j)
   to_corner_of m live i j c x y h =
       let family = wired.family m live in
@@ -129,7 +129,7 @@ module _ (wires : Wires) (source box : ℕ → Rectangle) (wired : IsWired wires
       (connected_alike (OfMask wires m) source box (λ a b s. wired.to_box m a b live s) i j c) x y _ _ h k))
 
   -- a cell of a strip is linked to the strip's lower left cell
-  to_corner : (m : ℕ) → Contains wires.conducting m → (i : ℕ) (x y : ℤ) → HoldsCell (OfMask wires m) box i x y → AreLinked Next (spot m x y) (corner wires box i)
+  to_corner : (m : ℕ) → IsTrue (wires.conducting m) → (i : ℕ) (x y : ℤ) → HoldsCell (OfMask wires m) box i x y → AreLinked Next (spot m x y) (corner wires box i)
   to_corner m live i x y h = to_corner_of m live i i (same h.strip) x y h
 
   -- the lower left cell of a cut, in a mask that it is laid on, is linked to that of the strip that holds it in the source

@@ -1,12 +1,12 @@
 -- Two metals with a cut between them: strip 0 is of the lower metal, strip 1 of the upper one, both 4 by 4, and strip 2 is a cut of 2 by 2
 -- in their middle. They are drawn as squares of 7 by 7 with a cut of 3 by 3.
-use Rattle.std.specs.Prelude.{ℕ, zero, suc, pos, [], ◌∷◌}
+use Rattle.std.specs.Prelude.{ℕ, zero, suc, pos, ◌==◌, not}
 use Rattle.rt_cells.specs.Rectangles.{Rectangle}
 use Rattle.rt_links.specs.Wires.{Wires, CarriesWires}
 
 -- each strip is of the mask of its number; masks 0 and 1 conduct
 abbrev pub two_metals : Wires
-two_metals = record { count = 3; mask = λ i. i; conducting = 0 ∷ 1 ∷ []; cuts = 2 ∷ []; upper = λ c. 1; lower = λ c. 0 }
+two_metals = record { count = 3; mask = λ i. i; conducting = λ m. not (m == 2); cuts = λ i. i == 2; upper = λ c. 1; lower = λ c. 0 }
 
 -- the strips of the source
 abbrev pub source_of : ℕ → Rectangle

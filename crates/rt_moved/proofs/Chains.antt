@@ -4,8 +4,8 @@ use Rattle.std.proofs.lemmas.List.Elements.{All-head, All-tail}
 use Rattle.rt_cells.specs.Rectangles.{Rectangle}
 use Rattle.rt_family.specs.Strips as family
 use Rattle.rt_family.specs.Carried as carried
-use Rattle.rt_nets.specs.declared.job.Job.{Job}
-use Rattle.rt_nets.specs.Job.{strips_of}
+use Rattle.rt_view.specs.declared.job.Job.{Job}
+use Rattle.rt_view.specs.Job.{strips_of}
 use Rattle.rt_rows.specs.declared.row.Var.{Var}
 use Rattle.rt_rows.specs.declared.row.Var.TheVariants.{B, T}
 use Rattle.rt_rows.specs.declared.name.Name.TheVariants.{Run}

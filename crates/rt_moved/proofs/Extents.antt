@@ -4,12 +4,12 @@ use Rattle.std.proofs.lemmas.Int.{ints}
 use Rattle.rt_cells.specs.Rectangles.{Rectangle, scaled}
 use Rattle.rt_cells.proofs.Times.{times_le, times_lt, not_negative, product_not_negative}
 use Rattle.rt_cells.proofs.Lines.{past, past_one}
-use Rattle.rt_nets.specs.declared.job.Job.{Job}
-use Rattle.rt_nets.specs.Job.{strips_of, IsJob}
+use Rattle.rt_view.specs.declared.job.Job.{Job}
+use Rattle.rt_view.specs.Job.{strips_of, IsJob}
 use Rattle.rt_rows.specs.declared.positions.TheConstants.{EXTENT_LIMIT}
 use Rattle.rt_rows.specs.declared.row.Var.{Var}
 use Rattle.rt_rows.specs.declared.row.Var.TheVariants.{L, R, B, T, Width, Height}
-use Rattle.rt_rows.specs.declared.name.Name.TheVariants.{Lo, Hi, Zero, Top, Wide, Tall}
+use Rattle.rt_rows.specs.declared.name.Name.TheVariants.{Lo, Hi, Zero, Top, Wide}
 use Rattle.rt_rows.proofs.Rows.{at_least_met, at_most_met, beyond_met}
 use Rattle.rt_strips.specs.Placed.{mask_of}
 use Rattle.rt_strips.specs.Standing.{IsStrip}
@@ -18,6 +18,7 @@ use Rattle.rt_template.specs.Horizontal.{width_across, RowAcross, MeetsAcross}
 use Rattle.rt_template.specs.Vertical.{RowUpwards, MeetsUpwards}
 use Rattle.rt_moved.specs.Laws.{LiesIn, IsExtent, MovedFits}
 use Rattle.rt_moved.proofs.Drawn.{in_steps}
+use Rattle.rt_moved.proofs.Heights.{some_height}
 
 ends_in : (high extent : ℤ) → (high +ℤ pos 0) ≤ℤ extent → high ≤ℤ extent
 ends_in high extent h = omega (arith, ints)
@@ -43,7 +44,7 @@ module _ (job : Job) (is : IsJob job) (at : Var → ℤ) (across : MeetsAcross j
         nonempty = record {
           across = past (at (L i)) (width_across job i) (at (R i)) width
               (beyond_met at (L i) (R i) (width_across job i) (across.meets (Wide i) _ (RowAcross.wide i h)));
-          upwards = past_one (at (B i)) (at (T i)) (beyond_met at (B i) (T i) (pos 1) (upwards.meets (Tall i) _ (RowUpwards.tall i h)));
+          upwards = past_one (at (B i)) (at (T i)) (some_height job at upwards i h is.job_of.target);
         };
         left = at_least_met at (L i) (pos 0) (across.meets (Lo i) _ (RowAcross.lo i h));
         right = ends_in (at (R i)) (at Width) (beyond_met at (R i) Width (pos 0) (across.meets (Hi i) _ (RowAcross.hi i h)));

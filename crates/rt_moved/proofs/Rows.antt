@@ -7,21 +7,22 @@ use Rattle.rt_cells.specs.Rectangles.{Rectangle, IsNonempty, columns_between}
 use Rattle.rt_family.specs.Strips as family
 use Rattle.rt_family.specs.Carried as carried
 use Rattle.rt_family.specs.Rows.{KeepsEnds, AreTouching, MeetsRows}
-use Rattle.rt_nets.specs.declared.job.Job.{Job}
-use Rattle.rt_nets.specs.Job.{strips_of}
+use Rattle.rt_view.specs.declared.job.Job.{Job}
+use Rattle.rt_view.specs.Job.{strips_of}
 use Rattle.rt_rows.specs.declared.row.Var.{Var}
 use Rattle.rt_rows.specs.declared.row.Var.TheVariants.{L, R, B, T}
-use Rattle.rt_rows.specs.declared.name.Name.TheVariants.{Wide, Tall, Ll, Rr, Share, On, Under, Gap}
+use Rattle.rt_rows.specs.declared.name.Name.TheVariants.{Wide, Ll, Rr, Share, On, Under, Gap}
 use Rattle.rt_rows.specs.Rows.{beyond}
 use Rattle.rt_rows.proofs.Rows.{beyond_met}
 use Rattle.rt_strips.specs.Placed.{left_of, right_of, bottom_of, top_of}
 use Rattle.rt_strips.specs.Standing.{Touch}
 use Rattle.rt_strips.specs.StripsOf.{AreStripsOf}
 use Rattle.rt_strips.proofs.Family.{IsOfMask, box_of, stands_in_family, stands_from_family, climb_in_family}
-use Rattle.rt_tech.specs.Tech.{width_of, space_of}
+use Rattle.rt_tech.specs.Tech.{width_of, space_of, IsMeasured}
 use Rattle.rt_template.specs.Horizontal.{width_across, space_between, AreOfOneDrawnMask, RowAcross, MeetsAcross}
 use Rattle.rt_template.specs.Vertical.{columns_apart, AreOpen, RowUpwards, MeetsUpwards}
 use Rattle.rt_moved.proofs.Drawn.{in_steps}
+use Rattle.rt_moved.proofs.Heights.{some_height}
 
 not_before : (a b p q : ℤ) → a ≤ℤ b → (p +ℤ int_min (b -ℤ a) (pos 1)) ≤ℤ q → p ≤ℤ q
 not_before a b p q h k = omega (arith, ints, clamps)
@@ -93,10 +94,7 @@ module _ (job : Job) (cells : ℕ → ℤ → ℤ → Type 0) (masks : ℕ) (are
         near = inl (record { common = common_row (source i) (source j) (are.nonempty i (record { below_count = h.below })) (are.nonempty j (record { below_count = k.below })) row });
       }))))
 
-  -- upwards: each strip has a row, what stands adjoins, and what is kept of two one above the other
-  some_row : MeetsUpwards job at at → (i : ℕ) → Member i → (at (B i) +ℤ pos 1) ≤ℤ at (T i)
-  some_row upwards i h = beyond_met at (B i) (T i) (pos 1) (upwards.meets (Tall i) _ (RowUpwards.tall i (record { below_count = h.below })))
-
+  -- upwards: what stands adjoins, and what is kept of two one above the other
   is_on : MeetsUpwards job at at → (i j : ℕ) → family.StandsOn Member source i j → at (T i) ≤ℤ at (B j)
   is_on upwards i j s =
       nothing_more (at (T i)) (at (B j))
@@ -141,11 +139,11 @@ module _ (job : Job) (cells : ℕ → ℤ → ℤ → Type 0) (masks : ℕ) (are
       }))))
 
   -- the mask's rows are met
-  pub meets_rows : MeetsAcross job at → MeetsUpwards job at at
+  pub meets_rows : IsMeasured job.target → MeetsAcross job at → MeetsUpwards job at at
       → MeetsRows Member source (in_steps at) (width_of job.target m) (λ i j. space_of job.target m)
-  meets_rows across upwards = record {
+  meets_rows target across upwards = record {
     wide = wide_enough across;
-    tall = some_row upwards;
+    tall = λ i h. some_height job at upwards i (record { below_count = h.below }) target;
     ends = ends_kept across;
     on = is_on upwards;
     under = is_under upwards;

@@ -1,40 +1,39 @@
 //! The view of a layout.
-ghost use Rattle.std.specs.Prelude.{◌≡◌, length, replicate, All, IfOk, IfErr};
-ghost use Rattle.rt_nets.specs.declared.shapes.NetError.TheVariants.{OutOfMemory as NoMemory};
-ghost use Rattle.rt_nets.specs.View.{IsMetal, IsViewOf};
+ghost use Rattle.std.specs.Prelude.{◌≡◌, ◌<◌, ◌^◌, length, replicate, All, IfOk, IfErr};
 ghost use Rattle.rt_strips.specs.Channels.{IsStripsOf};
+ghost use Rattle.rt_tech.specs.Tech.{mask_count};
+ghost use Rattle.rt_shapes.specs.Touching.{ArePlain};
+ghost use Rattle.rt_view.specs.Shapes.{IsWiring, IsShapeErrorOf};
+ghost use Rattle.rt_view.specs.View.{IsViewOf};
 
-use crate::shapes::{NetError, View};
 use rt_base::{List, OutOfMemory};
 use rt_layout::{Label, Layout};
+use rt_shapes::sound_shapes;
 use rt_strips::Strips;
 use rt_tech::Tech;
+use rt_view::{NetError, View};
 use std::alloc::Global;
 
-impl From<OutOfMemory> for NetError {
-    ghost from_gives = { λ _ error. error ≡ NoMemory };
-
-    fn from(_error: OutOfMemory) -> NetError {
-        NetError::OutOfMemory
-    }
-}
-
-/// The view of a layout whose masks are all metals, by its strips. Shapes aren't tested yet: of those that a layout of metals may have, stray labels,
-/// none is told, so the one error is a want of memory. (This project's own.)
+/// The view of a layout whose masks are metals and cuts, by its strips; or the first shape that a sound source doesn't have, in the order `CutShape`,
+/// `CutUpper`, `CutLower`, `StrayLabel`, with the least rectangle around the piece that shows it, of a label the square of side 1 whose lower left
+/// corner is its point. `OutOfMemory` comes for want of memory alone. (This project's own.)
 pub fn view_of(
     alloc: Global,
     layout: &Layout,
     strips: Strips,
     tech: &Tech,
 ) -> Result<View, NetError>
-    requires metals { All IsMetal tech.now.masks }
+    requires wiring { All IsWiring tech.now.masks }
+    requires masks { length layout.now.masks ≡ mask_count tech.now }
     requires strips { IsStripsOf layout.now tech.now strips }
+    requires few { length strips.list < 2 ^ 30 }
+    requires points { ArePlain layout.now.labels }
     ensures view { IfOk result (IsViewOf layout.now tech.now) }
     ensures same { IfOk result (λ view. view.strips ≡ strips) }
-    ensures refused { IfErr result (λ error. error ≡ NoMemory) }
+    ensures refused { IfErr result (IsShapeErrorOf layout.now tech.now) }
 {
+    let lowers = sound_shapes(alloc, layout, &strips, tech)?;
     let labels = copied(alloc, layout.labels.as_slice())?;
-    let lowers = zeros(alloc, strips.list.as_slice().len())?;
     let kinds = zeros(alloc, strips.list.as_slice().len())?;
     Ok(View {
         strips,

@@ -1,5 +1,5 @@
 -- Rows of differences along one axis, and the least positions that meet them.
-use Rattle.std.specs.Prelude.{◌+◌, ◌∷◌, ◌≡◌, ◌≢◌, ℕ, suc, ◌<◌, ◌^◌, ℤ, pos, neg_ℤ, ◌≤ℤ◌, List, [], Some, None, length, All, AllPairs, Contains, ◌≤◌, slice_get}
+use Rattle.std.specs.Prelude.{◌+◌, ◌∷◌, ◌≡◌, ◌≢◌, ℕ, suc, ◌<◌, ℤ, pos, neg_ℤ, ◌≤ℤ◌, List, [], Some, None, length, All, AllPairs, Contains, ◌≤◌, slice_get}
 use Rattle.rt_base.specs.declared.plane.Axis.{Axis}
 use Rattle.rt_base.specs.declared.plane.Axis.TheVariants.{Across, Upwards}
 use Rattle.rt_rows.specs.declared.name.Name.{Name}
@@ -77,7 +77,6 @@ pub record IsHeld (axis : Axis) (rows : List (Name × Row)) (i : ℕ) : Type 0 w
 
 -- the rows are differences along the axis, no two of one name; the extent lies between 0 and its limit, and each strip that they name in it
 pub record AreDifferences (axis : Axis) (rows : List (Name × Row)) : Type 0 where
-  pub few : length rows < 2 ^ 32
   pub names : AllPairs (λ a b. a.0 ≢ b.0) rows
   pub each : All (λ named. IsDifference axis named.1) rows
   pub zero : HasRow rows (at_least (extent axis) (pos 0))

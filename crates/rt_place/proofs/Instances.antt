@@ -1,22 +1,28 @@
 -- Both templates of a job are templates over its strips.
-use Rattle.std.proofs.Common.{◌≡◌, ℕ, ◌<◌, ◌≤◌, ℤ, pos, ◌≤ℤ◌, length, refl, sym, subst, arith, inl, inr}
+use Rattle.std.proofs.Common.{ℕ, zero, suc, ◌<◌, ℤ, pos, neg_ℤ, ◌≤ℤ◌, Bool, true, false, cond, List, [], ◌∷◌, length, refl, arith, inl, inr}
+use Rattle.std.specs.Prelude.{All, slice_get}
 use Rattle.std.proofs.lemmas.Int.{ints, clamps}
 use Rattle.rt_base.specs.declared.plane.Axis.TheVariants.{Across, Upwards}
 use Rattle.rt_rows.specs.declared.name.Name.{Name}
-use Rattle.rt_rows.specs.declared.name.Name.TheVariants.{Lo, Hi, Zero, Top, Wide, Tall, Ll, Rr, Share, On, Under, Gap, Run}
+use Rattle.rt_rows.specs.declared.name.Name.TheVariants.{Lo, Hi, Zero, Top, Wide, Tall}
 use Rattle.rt_rows.specs.declared.row.Var.TheVariants.{L, R, B, T, Width, Height}
 use Rattle.rt_rows.specs.declared.row.Row.{Row}
 use Rattle.rt_rows.specs.declared.row.Var.{Var}
-use Rattle.rt_rows.specs.Order.{place_of}
-use Rattle.rt_tech.specs.Tech.{width_of, space_of, IsMeasured}
+use Rattle.rt_tech.specs.declared.table.Apart.{Apart as Distance}
+use Rattle.rt_tech.specs.declared.table.Enclose.{Enclose as Enclosure}
+use Rattle.rt_tech.specs.declared.table.Tech.{Tech}
+use Rattle.rt_tech.specs.Tech.{width_of, space_of, IsLength, IsReach, IsMeasured}
+use Rattle.rt_rules.specs.Pairs.{IsMeasuredEnclose, IsMeasuredApart, HasMeasuredPairs, enclose_number as number_of_enclose, apart_number as number_of_apart}
 use Rattle.rt_tech.proofs.Lengths.{width_is_length, space_is_length}
-use Rattle.rt_nets.specs.declared.job.Job.{Job}
-use Rattle.rt_nets.specs.Job.{strips_of}
+use Rattle.rt_view.specs.declared.job.Job.{Job}
+use Rattle.rt_view.specs.Job.{strips_of}
 use Rattle.rt_strips.specs.Standing.{Touch, StandsOn}
+use Rattle.rt_template.specs.Between.{enclose_number, apart_number, is_of_cut, least_height}
+use Rattle.rt_template.proofs.Sides.{of_host, of_sides}
 use Rattle.rt_template.specs.Horizontal.{RowAcross, kept_behind, width_across, space_between}
 use Rattle.rt_template.specs.Vertical.{RowUpwards, width_upwards, IsChain}
 use Rattle.rt_path.specs.Longest.{IsNear}
-use Rattle.rt_place.proofs.Templates.{IsOfStrips, IsRowOf, IsSmallName, IsTemplate}
+use Rattle.rt_place.proofs.Templates.{IsOfStrips, IsRowOf, IsTemplate}
 
 near : (n : ℤ) → pos 0 ≤ℤ n → n ≤ℤ pos 20000000 → IsNear n
 near n h g = record { not_far_down = omega (arith, ints, h); not_far_up = g }
@@ -36,34 +42,43 @@ near_length n h g = near n (omega (arith, ints, h)) (omega (arith, ints, g))
 near_behind : (first second : ℤ) → first ≤ℤ second → IsNear (kept_behind first second)
 near_behind first second h = near (kept_behind first second) (omega (arith, ints, clamps, h)) (omega (arith, ints, clamps, h))
 
-small : (i count : ℕ) → i < count → count ≤ 8192 → i < 8192
-small i count h g = omega (arith, h, g)
+near_less : (n : ℤ) → IsLength n → IsNear (neg_ℤ n)
+near_less n is = record { not_far_down = omega (arith, ints, is.low, is.high); not_far_up = omega (arith, ints, is.low, is.high) }
 
--- a name of strips with small numbers
-module _ (count : ℕ) (few : count ≤ 8192) where
-  none_named : (kind : ℕ) (name : Name) → place_of name ≡ record { kind = kind; first = 0; second = 0; third = 0 } → kind < 31 → IsSmallName name
-  none_named kind name e h = record {
-    kind = subst (λ p. p.kind < 31) (sym e) h;
-    first = subst (λ p. p.first < 8192) (sym e) (omega arith);
-    second = subst (λ p. p.second < 8192) (sym e) (omega arith);
-    third = subst (λ p. p.third ≡ 0) (sym e) refl;
-  }
+near_reach : (n : ℤ) → IsReach n → IsNear n
+near_reach n is = near n is.low (omega (arith, ints, is.high))
 
-  one_named : (kind i : ℕ) (name : Name) → place_of name ≡ record { kind = kind; first = i; second = 0; third = 0 } → kind < 31 → i < count → IsSmallName name
-  one_named kind i name e h g = record {
-    kind = subst (λ p. p.kind < 31) (sym e) h;
-    first = subst (λ p. p.first < 8192) (sym e) (small i count g few);
-    second = subst (λ p. p.second < 8192) (sym e) (omega arith);
-    third = subst (λ p. p.third ≡ 0) (sym e) refl;
-  }
+near_aparts : (tech : Tech) (aparts : List Distance) → All (IsMeasuredApart tech) aparts → (q : ℕ) → IsNear (number_of_apart (slice_get aparts q))
+near_aparts tech [] all q = near_zero
+near_aparts tech (apart ∷ aparts) all zero =
+    let measured = all 0 apart (omega arith) in
+    near_length apart.number measured.number.low measured.number.high
+near_aparts tech (apart ∷ aparts) all (suc q) = near_aparts tech aparts (λ k d h. all (suc k) d (omega (arith, h))) q
 
-  two_named : (kind i j : ℕ) (name : Name) → place_of name ≡ record { kind = kind; first = i; second = j; third = 0 } → kind < 31 → i < count → j < count → IsSmallName name
-  two_named kind i j name e h g f = record {
-    kind = subst (λ p. p.kind < 31) (sym e) h;
-    first = subst (λ p. p.first < 8192) (sym e) (small i count g few);
-    second = subst (λ p. p.second < 8192) (sym e) (small j count f few);
-    third = subst (λ p. p.third ≡ 0) (sym e) refl;
-  }
+near_encloses : (tech : Tech) (encloses : List Enclosure) → All (IsMeasuredEnclose tech) encloses → (q : ℕ) → IsNear (number_of_enclose (slice_get encloses q))
+near_encloses tech [] all q = near_zero
+near_encloses tech (enclose ∷ encloses) all zero =
+    let measured = all 0 enclose (omega arith) in
+    near_reach enclose.number measured.number
+near_encloses tech (enclose ∷ encloses) all (suc q) = near_encloses tech encloses (λ k d h. all (suc k) d (omega (arith, h))) q
+
+-- the numbers of distances and of enclosures
+near_apart : (tech : Tech) → HasMeasuredPairs tech → (q : ℕ) → IsNear (apart_number tech q)
+near_apart tech pairs q = near_aparts tech tech.aparts pairs.aparts q
+
+near_enclose : (tech : Tech) → HasMeasuredPairs tech → (q : ℕ) → IsNear (enclose_number tech q)
+near_enclose tech pairs q = near_encloses tech tech.encloses pairs.encloses q
+
+-- how high a strip has to be
+cond_near : (b : Bool) (n : ℤ) → IsLength n → IsNear (cond b n (pos 1)) × (pos 1 ≤ℤ cond b n (pos 1))
+cond_near true n is = (near_length n is.low is.high, is.low)
+cond_near false n is = (near_one, omega (arith, ints))
+
+near_height : (job : Job) → IsMeasured job.target → (i : ℕ) → IsNear (least_height job i)
+near_height job target i = (cond_near (is_of_cut job i) _ (width_is_length job.target target _)).0
+
+some_height : (job : Job) → IsMeasured job.target → (i : ℕ) → pos 1 ≤ℤ least_height job i
+some_height job target i = (cond_near (is_of_cut job i) _ (width_is_length job.target target _)).1
 
 touch_first : (job : Job) (i j : ℕ) → Touch (strips_of job) i j → i < length (strips_of job)
 touch_first job i j (inl s) = s.strips_of_one_mask.first.below_count
@@ -82,10 +97,9 @@ chain_last job columns x u i j (IsChain.one c) = c.strip.below_count
 chain_last job columns x u i k (IsChain.onward j _ c s d) = d.strip.below_count
 
 -- the template across is one over the strips
-pub template_across : (job : Job) → IsMeasured job.target → length (strips_of job) ≤ 8192 → IsTemplate Across (length (strips_of job)) (RowAcross job)
-template_across job target few = record {
+pub template_across : (job : Job) → IsMeasured job.target → HasMeasuredPairs job.target → IsTemplate Across (length (strips_of job)) (RowAcross job)
+template_across job target pairs = record {
   each = row;
-  small = name;
   zero = (Zero, RowAcross.zero);
   top = (Top, RowAcross.top);
   begins = λ i h. (Lo i, RowAcross.lo i (record { below_count = h }));
@@ -118,28 +132,20 @@ template_across job target few = record {
     row n r (RowAcross.rr i j t h) = IsRowOf.keeps_beyond (R i) (R j) _ (right i (touch_first job i j t)) (right j (touch_second job i j t)) (near_behind _ _ h) refl
     row n r (RowAcross.share i j t h g) = IsRowOf.keeps_beyond (L j) (R i) (width_across job i) (left j (touch_second job i j t)) (right i (touch_first job i j t)) (width _) refl
     row n r (RowAcross.gap i j k) = IsRowOf.keeps_beyond (R i) (L j) (space_between job i j) (right i k.of_one_mask.one_mask.first.below_count) (left j k.of_one_mask.one_mask.second.below_count) (space _) refl
-
-    name : (n : Name) (r : Row) → RowAcross job n r → IsSmallName n
-    name n r (RowAcross.lo i s) = one_named (length (strips_of job)) few 0 i (Lo i) refl (omega arith) s.below_count
-    name n r (RowAcross.hi i s) = one_named (length (strips_of job)) few 1 i (Hi i) refl (omega arith) s.below_count
-    name n r RowAcross.zero = none_named (length (strips_of job)) few 2 Zero refl (omega arith)
-    name n r RowAcross.top = none_named (length (strips_of job)) few 3 Top refl (omega arith)
-    name n r (RowAcross.wide i s) = one_named (length (strips_of job)) few 4 i (Wide i) refl (omega arith) s.below_count
-    name n r (RowAcross.ll i j t h) = two_named (length (strips_of job)) few 7 i j (Ll i j) refl (omega arith) (touch_first job i j t) (touch_second job i j t)
-    name n r (RowAcross.rr i j t h) = two_named (length (strips_of job)) few 8 i j (Rr i j) refl (omega arith) (touch_first job i j t) (touch_second job i j t)
-    name n r (RowAcross.share i j t h g) = two_named (length (strips_of job)) few 9 i j (Share i j) refl (omega arith) (touch_first job i j t) (touch_second job i j t)
-    name n r (RowAcross.gap i j k) = two_named (length (strips_of job)) few 12 i j (Gap i j) refl (omega arith) k.of_one_mask.one_mask.first.below_count k.of_one_mask.one_mask.second.below_count
+    row n r (RowAcross.size i c) = IsRowOf.keeps_beyond (R i) (L i) _ (right i c.strip.below_count) (left i c.strip.below_count) (near_less _ (width_is_length job.target target _)) refl
+    row n r (RowAcross.off q i j k) = IsRowOf.keeps_beyond (R i) (L j) _ (right i (of_sides job q i j k.sides).0) (left j (of_sides job q i j k.sides).1) (near_apart job.target pairs q) refl
+    row n r (RowAcross.inl q i h k) = IsRowOf.keeps_beyond (L h) (L i) _ (left h (of_host job q i h k).1) (left i (of_host job q i h k).0) (near_enclose job.target pairs q) refl
+    row n r (RowAcross.inr q i h k) = IsRowOf.keeps_beyond (R i) (R h) _ (right i (of_host job q i h k).0) (right h (of_host job q i h k).1) (near_enclose job.target pairs q) refl
 
 -- the template upwards is one over the strips
-pub template_upwards : (job : Job) (columns : Var → ℤ) → IsMeasured job.target → length (strips_of job) ≤ 8192
+pub template_upwards : (job : Job) (columns : Var → ℤ) → IsMeasured job.target → HasMeasuredPairs job.target
     → IsTemplate Upwards (length (strips_of job)) (RowUpwards job columns)
-template_upwards job columns target few = record {
+template_upwards job columns target pairs = record {
   each = row;
-  small = name;
   zero = (Zero, RowUpwards.zero);
   top = (Top, RowUpwards.top);
   begins = λ i h. (Lo i, RowUpwards.lo i (record { below_count = h }));
-  wide = λ i h. (pos 1, omega (arith, ints), Tall i, RowUpwards.tall i (record { below_count = h }));
+  wide = λ i h. (least_height job i, some_height job target i, Tall i, RowUpwards.tall i (record { below_count = h }));
   ends = λ i h. (Hi i, RowUpwards.hi i (record { below_count = h }));
 }
   where
@@ -169,19 +175,12 @@ template_upwards job columns target few = record {
     row n r (RowUpwards.hi i s) = IsRowOf.keeps_beyond (T i) Height (pos 0) (top i s.below_count) all near_zero refl
     row n r RowUpwards.zero = IsRowOf.bounds_below Height (pos 0) all near_zero refl
     row n r RowUpwards.top = IsRowOf.bounds_above Height (pos 20000000) all near_top refl
-    row n r (RowUpwards.tall i s) = IsRowOf.keeps_beyond (B i) (T i) (pos 1) (bottom i s.below_count) (top i s.below_count) near_one refl
+    row n r (RowUpwards.tall i s) = IsRowOf.keeps_beyond (B i) (T i) _ (bottom i s.below_count) (top i s.below_count) (near_height job target i) refl
     row n r (RowUpwards.on i j s) = IsRowOf.keeps_beyond (T i) (B j) (pos 0) (top i (below i j s)) (bottom j (above i j s)) near_zero refl
     row n r (RowUpwards.under i j s) = IsRowOf.keeps_beyond (B j) (T i) (pos 0) (bottom j (above i j s)) (top i (below i j s)) near_zero refl
     row n r (RowUpwards.gap i j k) = IsRowOf.keeps_beyond (T i) (B j) (space_between job i j) (top i k.of_one_mask.one_mask.first.below_count) (bottom j k.of_one_mask.one_mask.second.below_count) (space _) refl
     row n r (RowUpwards.run i j c) = IsRowOf.keeps_beyond (B i) (T j) (width_upwards job i) (bottom i (chain_first job columns c.x c.u i j c.chain)) (top j (chain_last job columns c.x c.u i j c.chain)) (width _) refl
-
-    name : (n : Name) (r : Row) → RowUpwards job columns n r → IsSmallName n
-    name n r (RowUpwards.lo i s) = one_named (length (strips_of job)) few 0 i (Lo i) refl (omega arith) s.below_count
-    name n r (RowUpwards.hi i s) = one_named (length (strips_of job)) few 1 i (Hi i) refl (omega arith) s.below_count
-    name n r RowUpwards.zero = none_named (length (strips_of job)) few 2 Zero refl (omega arith)
-    name n r RowUpwards.top = none_named (length (strips_of job)) few 3 Top refl (omega arith)
-    name n r (RowUpwards.tall i s) = one_named (length (strips_of job)) few 5 i (Tall i) refl (omega arith) s.below_count
-    name n r (RowUpwards.on i j s) = two_named (length (strips_of job)) few 10 i j (On i j) refl (omega arith) (below i j s) (above i j s)
-    name n r (RowUpwards.under i j s) = two_named (length (strips_of job)) few 11 i j (Under i j) refl (omega arith) (below i j s) (above i j s)
-    name n r (RowUpwards.gap i j k) = two_named (length (strips_of job)) few 12 i j (Gap i j) refl (omega arith) k.of_one_mask.one_mask.first.below_count k.of_one_mask.one_mask.second.below_count
-    name n r (RowUpwards.run i j c) = two_named (length (strips_of job)) few 13 i j (Run i j) refl (omega arith) (chain_first job columns c.x c.u i j c.chain) (chain_last job columns c.x c.u i j c.chain)
+    row n r (RowUpwards.size i c) = IsRowOf.keeps_beyond (T i) (B i) _ (top i c.strip.below_count) (bottom i c.strip.below_count) (near_less _ (width_is_length job.target target _)) refl
+    row n r (RowUpwards.off q i j k) = IsRowOf.keeps_beyond (T i) (B j) _ (top i (of_sides job q i j k.sides).0) (bottom j (of_sides job q i j k.sides).1) (near_apart job.target pairs q) refl
+    row n r (RowUpwards.inb q i h k) = IsRowOf.keeps_beyond (B h) (B i) _ (bottom h (of_host job q i h k.host).1) (bottom i (of_host job q i h k.host).0) (near_enclose job.target pairs q) refl
+    row n r (RowUpwards.int q i h k) = IsRowOf.keeps_beyond (T i) (T h) _ (top i (of_host job q i h k.host).0) (top h (of_host job q i h k.host).1) (near_enclose job.target pairs q) refl

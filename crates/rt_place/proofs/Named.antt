@@ -7,7 +7,7 @@ use Rattle.rt_rows.specs.declared.name.Name.{Name}
 use Rattle.rt_rows.specs.declared.row.Row.{Row}
 use Rattle.rt_rows.specs.Order.{ComesBefore, ListsNames, place_of}
 use Rattle.rt_rows.proofs.PlacesOrder.{never_itself}
-use Rattle.rt_nets.specs.declared.job.Job.{Job}
+use Rattle.rt_view.specs.declared.job.Job.{Job}
 use Rattle.rt_template.specs.Horizontal.{RowAcross, HasAcross}
 use Rattle.rt_template.proofs.OneRow.{one_across}
 use Rattle.rt_vtemplate.specs.Listing.{ListsRows}

@@ -1,5 +1,5 @@
 -- The rows of a template in another order.
-use Rattle.std.proofs.Common.{◌≡◌, ◌≢◌, ℕ, ◌<◌, ◌==◌, Bool, true, false, ◌&&◌, List, [], ◌∷◌, length, map, get_or, AllPairs, Contains, refl, sym, ap, subst, subst₂, arith}
+use Rattle.std.proofs.Common.{◌≡◌, ◌≢◌, ◌<◌, ◌==◌, Bool, true, false, ◌&&◌, List, length, map, AllPairs, refl, sym, subst, subst₂, arith}
 use Rattle.std.specs.Bool.{Decides}
 use Rattle.std.specs.List.Sorted.{IsPermutation}
 use Rattle.std.proofs.lemmas.Bool.Decides.{Decides-eqb, Decides-and}
@@ -9,7 +9,7 @@ use Rattle.std.proofs.lemmas.Map.Keys.{IsDistinct-IsPermutation}
 use Rattle.std.proofs.lemmas.Map.Made.{IsDistinct-from_AllPairs, AllPairs-from_IsDistinct}
 use Rattle.rt_rows.specs.declared.name.Name.{Name}
 use Rattle.rt_rows.specs.declared.row.Row.{Row}
-use Rattle.rt_rows.specs.Order.{Place, place_of}
+use Rattle.rt_rows.specs.Order.{place_of}
 use Rattle.rt_rows.proofs.PlacesOrder.{one_name}
 use Rattle.rt_place.specs.Placing.{HoldsRows}
 use Rattle.rt_place.proofs.Templates.{same_place, pairs_mapped}

@@ -17,8 +17,9 @@ use Rattle.rt_proofs.specs.Trees.{Proof}
 use Rattle.rt_proofs.specs.Trees.Goal.{Refute}
 use Rattle.rt_proofs.proofs.Bounds.{refuted}
 use Rattle.rt_proofs.proofs.Given.{meets_sum}
-use Rattle.rt_nets.specs.declared.job.Job.{Job}
-use Rattle.rt_nets.specs.Job.{strips_of}
+use Rattle.rt_view.specs.declared.job.Job.{Job}
+use Rattle.rt_view.specs.Job.{strips_of}
+use Rattle.rt_rules.specs.Pairs.{HasMeasuredPairs}
 use Rattle.rt_tech.specs.Tech.{IsMeasured}
 use Rattle.rt_tech.proofs.Lengths.{width_is_length}
 use Rattle.rt_template.specs.Horizontal.{RowAcross, width_across, IsLeastAcross}
@@ -68,11 +69,11 @@ module _ (axis : Axis) (count : ℕ) (template : Name → Row → Type 0) (is : 
       met name sum l = subst (Meets at) (sym l.is) (meets_sum at l.row (m name l.row ((holds.exact name l.row).0 l.has)))
 
 -- the least values along the axis are the columns of a job
-pub columns_placed : (job : Job) → IsMeasured job.target → length (strips_of job) ≤ 8192 → (rows : List (Name × Row)) → HoldsRows (RowAcross job) rows
+pub columns_placed : (job : Job) → IsMeasured job.target → HasMeasuredPairs job.target → (rows : List (Name × Row)) → HoldsRows (RowAcross job) rows
     → (at : Positions) → IsLeastOf Across rows at → AreColumnsOf job at
-columns_placed job target few rows holds at least =
+columns_placed job target pairs rows holds at least =
     let count = length (strips_of job) in
-    let is = template_across job target few in
+    let is = template_across job target pairs in
     let lefts = counted Across count (RowAcross job) is rows holds (length at.l) least.counted in
     record {
       lefts = lefts;
@@ -91,12 +92,12 @@ columns_placed job target few rows holds at least =
     }
 
 -- and those upwards its bottoms and tops
-pub heights_placed : (job : Job) (columns : Positions) → IsMeasured job.target → length (strips_of job) ≤ 8192 → (rows : List (Name × Row))
+pub heights_placed : (job : Job) (columns : Positions) → IsMeasured job.target → HasMeasuredPairs job.target → (rows : List (Name × Row))
     → HoldsRows (RowUpwards job (places columns)) rows → (at : Positions) → IsLeastOf Upwards rows at → AreHeightsOf job columns at
-heights_placed job columns target few rows holds at least =
+heights_placed job columns target pairs rows holds at least =
     let count = length (strips_of job) in
     let template = RowUpwards job (places columns) in
-    let is = template_upwards job (places columns) target few in
+    let is = template_upwards job (places columns) target pairs in
     let bottoms = counted Upwards count template is rows holds (length at.b) least.counted in
     record {
       bottoms = bottoms;
@@ -115,26 +116,26 @@ heights_placed job columns target few rows holds at least =
     }
 
 -- a refutation says that none meet the template
-pub none_across : (job : Job) → IsMeasured job.target → length (strips_of job) ≤ 8192 → (rows : List (Name × Row)) → HoldsRows (RowAcross job) rows
+pub none_across : (job : Job) → IsMeasured job.target → HasMeasuredPairs job.target → (rows : List (Name × Row)) → HoldsRows (RowAcross job) rows
     → (nodes : List Node) → Proof (Listed rows) Refute nodes → NoneMeetOf job Across
-none_across job target few rows holds nodes proof =
-    NoneMeetOf.across (λ other m. none_meet Across (length (strips_of job)) (RowAcross job) (template_across job target few) rows holds nodes proof other m.meets)
+none_across job target pairs rows holds nodes proof =
+    NoneMeetOf.across (λ other m. none_meet Across (length (strips_of job)) (RowAcross job) (template_across job target pairs) rows holds nodes proof other m.meets)
 
-pub none_upwards : (job : Job) (columns : Positions) → IsMeasured job.target → length (strips_of job) ≤ 8192 → IsLeastAcross job (places columns)
+pub none_upwards : (job : Job) (columns : Positions) → IsMeasured job.target → HasMeasuredPairs job.target → IsLeastAcross job (places columns)
     → (rows : List (Name × Row)) → HoldsRows (RowUpwards job (places columns)) rows → (nodes : List Node) → Proof (Listed rows) Refute nodes → NoneMeetOf job Upwards
-none_upwards job columns target few least rows holds nodes proof =
+none_upwards job columns target pairs least rows holds nodes proof =
     NoneMeetOf.upwards (places columns) least (λ other m. none_meet Upwards (length (strips_of job)) (RowUpwards job (places columns))
-    (template_upwards job (places columns) target few) rows holds nodes proof other m.meets)
+    (template_upwards job (places columns) target pairs) rows holds nodes proof other m.meets)
 
 -- the rows are differences that have least positions
-pub differences_across : (job : Job) → IsMeasured job.target → length (strips_of job) ≤ 8192 → (rows : List (Name × Row)) → HoldsRows (RowAcross job) rows
+pub differences_across : (job : Job) → IsMeasured job.target → HasMeasuredPairs job.target → (rows : List (Name × Row)) → HoldsRows (RowAcross job) rows
     → AreDifferences Across rows
-differences_across job target few rows holds = differences Across (length (strips_of job)) (RowAcross job) (template_across job target few) rows holds
+differences_across job target pairs rows holds = differences Across (length (strips_of job)) (RowAcross job) (template_across job target pairs) rows holds
 
-pub differences_upwards : (job : Job) (columns : Positions) → IsMeasured job.target → length (strips_of job) ≤ 8192 → (rows : List (Name × Row))
+pub differences_upwards : (job : Job) (columns : Positions) → IsMeasured job.target → HasMeasuredPairs job.target → (rows : List (Name × Row))
     → HoldsRows (RowUpwards job (places columns)) rows → AreDifferences Upwards rows
-differences_upwards job columns target few rows holds =
-    differences Upwards (length (strips_of job)) (RowUpwards job (places columns)) (template_upwards job (places columns) target few) rows holds
+differences_upwards job columns target pairs rows holds =
+    differences Upwards (length (strips_of job)) (RowUpwards job (places columns)) (template_upwards job (places columns) target pairs) rows holds
 
 same_length : (n m : ℕ) → n ≡ m → m ≤ n
 same_length n m e = omega (arith, e)
@@ -165,6 +166,10 @@ joined_placed job columns heights c h = record {
     across_same name row (RowAcross.rr i j t g) m = record { holds = m.holds }
     across_same name row (RowAcross.share i j t g k) m = record { holds = m.holds }
     across_same name row (RowAcross.gap i j k) m = record { holds = m.holds }
+    across_same name row (RowAcross.size i c) m = record { holds = m.holds }
+    across_same name row (RowAcross.off q i j k) m = record { holds = m.holds }
+    across_same name row (RowAcross.inl q i h k) m = record { holds = m.holds }
+    across_same name row (RowAcross.inr q i h k) m = record { holds = m.holds }
 
     joined_least : IsLeastAcross job (places columns) → IsLeastAcross job (places (joined_of columns heights))
     joined_least l = record {
@@ -189,6 +194,10 @@ joined_placed job columns heights c h = record {
     upwards_same name row (RowUpwards.under i j s) m = record { holds = m.holds }
     upwards_same name row (RowUpwards.gap i j k) m = record { holds = m.holds }
     upwards_same name row (RowUpwards.run i j k) m = record { holds = m.holds }
+    upwards_same name row (RowUpwards.size i c) m = record { holds = m.holds }
+    upwards_same name row (RowUpwards.off q i j k) m = record { holds = m.holds }
+    upwards_same name row (RowUpwards.inb q i h k) m = record { holds = m.holds }
+    upwards_same name row (RowUpwards.int q i h k) m = record { holds = m.holds }
 
     met_upwards : (name : Name) (row : Row) → MeetsUpwards job (places columns) (places heights) → RowUpwards job (places (joined_of columns heights)) name row
         → MeetsRow (places (joined_of columns heights)) row

@@ -1,12 +1,7 @@
 -- The rows of a template along an axis, over so many strips, whichever the template is: they are differences that have least positions.
-use Rattle.std.proofs.Common.{◌≡◌, ◌≢◌, ℕ, zero, suc, ◌+◌, ◌*◌, ◌<◌, ◌≤◌, ◌^◌, eqb, ltb, ℤ, pos, negsuc, ◌≤ℤ◌, ◌⊎◌, Bool, true, false, true≢false, List, [], ◌∷◌, length, map, Some, None, All, AllPairs, Contains, refl, sym, ap, ◌∙◌, subst, subst₂, arith, inl, inr}
-use Rattle.std.specs.List.{list_any}
-use Rattle.std.proofs.lemmas.Bool.Decides.{Decides-eqb, Decides-ltb}
+use Rattle.std.proofs.Common.{◌≡◌, ℕ, zero, suc, ◌<◌, ◌≤◌, ℤ, pos, negsuc, ◌≤ℤ◌, ◌⊎◌, List, [], ◌∷◌, length, map, Some, None, All, AllPairs, Contains, refl, sym, ap, ◌∙◌, subst, subst₂, arith, inl, inr}
 use Rattle.std.proofs.lemmas.List.{get_or-map, length-map}
-use Rattle.std.proofs.lemmas.List.Folds.{list_any_none}
-use Rattle.std.proofs.lemmas.Map.Made.{IsDistinct-from_AllPairs}
-use Rattle.std.proofs.lemmas.Map.Steps.{length-le_from_distinct_below}
-use Rattle.std.proofs.lemmas.List.Elements.{All-contains, All-contains_itself, All-map}
+use Rattle.std.proofs.lemmas.List.Elements.{All-contains, All-contains_itself}
 use Rattle.rt_base.specs.declared.plane.Axis.{Axis}
 use Rattle.rt_base.specs.declared.plane.Axis.TheVariants.{Across, Upwards}
 use Rattle.rt_rows.specs.declared.name.Name.{Name}
@@ -15,8 +10,7 @@ use Rattle.rt_rows.specs.declared.row.Term.{Term}
 use Rattle.rt_rows.specs.declared.row.Row.{Row}
 use Rattle.rt_rows.specs.declared.positions.TheConstants.{EXTENT_LIMIT}
 use Rattle.rt_rows.specs.Rows.{MeetsRow, at_least, at_most, beyond}
-use Rattle.rt_rows.specs.Order.{Place, place_of}
-use Rattle.rt_rows.proofs.PlacesOrder.{one_name}
+use Rattle.rt_rows.specs.Order.{Place}
 use Rattle.rt_proofs.specs.Forms.{kind_of, strip_of}
 use Rattle.rt_path.specs.Longest.{low, high, extent, IsOfAxis, IsNear, IsDifference, HasRow, Mentions, NamesStrip, IsHeld, AreDifferences, MeetsEachRow}
 use Rattle.rt_place.specs.Placing.{HoldsRows}
@@ -33,13 +27,7 @@ pub data IsRowOf (axis : Axis) (count : ℕ) (row : Row) : Type 0 where
   bounds_above : (v : Var) (n : ℤ) → IsOfStrips axis count v → IsNear n → row ≡ at_most v n → IsRowOf axis count row
   keeps_beyond : (u v : Var) (n : ℤ) → IsOfStrips axis count u → IsOfStrips axis count v → IsNear n → row ≡ beyond u v n → IsRowOf axis count row
 
--- a name of few kinds, of strips with small numbers
-pub record IsSmallName (name : Name) : Type 0 where
-  pub kind : (place_of name).kind < 31
-  pub first : (place_of name).first < 8192
-  pub second : (place_of name).second < 8192
-  pub third : (place_of name).third ≡ 0
-
+-- places with the same parts are one
 abbrev place : ℕ → ℕ → ℕ → ℕ → Place
 place kind first second third = record { kind = kind; first = first; second = second; third = third }
 
@@ -51,7 +39,6 @@ same_place p q a b c d =
 -- what the templates have in common
 pub record IsTemplate (axis : Axis) (count : ℕ) (template : Name → Row → Type 0) : Type 0 where
   pub each : (name : Name) (row : Row) → template name row → IsRowOf axis count row
-  pub small : (name : Name) (row : Row) → template name row → IsSmallName name
   pub zero : (name : Name) × template name (at_least (extent axis) (pos 0))
   pub top : (name : Name) × template name (at_most (extent axis) EXTENT_LIMIT)
   pub begins : (i : ℕ) → i < count → (name : Name) × template name (at_least (low axis i) (pos 0))
@@ -111,45 +98,6 @@ pairs_mapped f R [] pairs i j d h g = absurd (omega (arith, g))
 pairs_mapped f R (x ∷ xs) pairs i j d h g =
     let l : j < length (x ∷ xs) = subst (λ n. j < n) (length-map (x ∷ xs) f) g in
     subst₂ R (sym (get_or-map f (x ∷ xs) i x d (omega (arith, h, l)))) (sym (get_or-map f (x ∷ xs) j x d l)) (pairs i j x h l)
-
--- a name by a number
-abbrev code_of : Name × Row → ℕ
-code_of named = (place_of named.0).kind * 67108864 + ((place_of named.0).first * 8192 + (place_of named.0).second)
-
-first_same : (k f s k' f' s' : ℕ) → f < 8192 → s < 8192 → f' < 8192 → s' < 8192 → k * 67108864 + (f * 8192 + s) ≡ k' * 67108864 + (f' * 8192 + s') → k ≡ k'
-first_same k f s k' f' s' a b c d e = omega (arith, a, b, c, d, e)
-
-second_same : (k f s k' f' s' : ℕ) → f < 8192 → s < 8192 → f' < 8192 → s' < 8192 → k * 67108864 + (f * 8192 + s) ≡ k' * 67108864 + (f' * 8192 + s') → f ≡ f'
-second_same k f s k' f' s' a b c d e = omega (arith, a, b, c, d, e)
-
-third_same : (k f s k' f' s' : ℕ) → f < 8192 → s < 8192 → f' < 8192 → s' < 8192 → k * 67108864 + (f * 8192 + s) ≡ k' * 67108864 + (f' * 8192 + s') → s ≡ s'
-third_same k f s k' f' s' a b c d e = omega (arith, a, b, c, d, e)
-
-code_below : (k f s : ℕ) → k < 31 → f < 8192 → s < 8192 → k * 67108864 + (f * 8192 + s) < 2080374784
-code_below k f s a b c = omega (arith, a, b, c)
-
-other_number : (m q c : ℕ) → c < m → m ≤ q → q ≡ c → ⊥
-other_number m q c h g e = omega (arith, h, g, e)
-
-below_all : (codes : List ℕ) (m q : ℕ) → All (λ c. c < m) codes → list_any (eqb q) codes ≡ true → q < m
-below_all codes m q all found = tried (ltb q m) refl
-  where
-    none : m ≤ q → (c : ℕ) → c < m → eqb q c ≡ false
-    none g c h = tested (eqb q c) refl
-      where
-        tested : (b : Bool) → eqb q c ≡ b → eqb q c ≡ false
-        tested true e = absurd (other_number m q c h g ((Decides-eqb q c).0 e))
-        tested false e = e
-
-    not_below : ¬ (q < m) → m ≤ q
-    not_below h = omega (arith, h)
-
-    tried : (b : Bool) → ltb q m ≡ b → q < m
-    tried true e = (Decides-ltb q m).0 e
-    tried false e = absurd (true≢false (sym found ∙ list_any_none (eqb q) codes (λ k d l. none (not_below (λ h. true≢false (sym ((Decides-ltb q m).1 h) ∙ e))) _ (all k d l))))
-
-few_codes : (m : ℕ) (codes : List ℕ) → AllPairs (λ a b. a ≢ b) codes → All (λ c. c < m) codes → length codes ≤ m
-few_codes m codes apart below = length-le_from_distinct_below codes m (IsDistinct-from_AllPairs Decides-eqb codes apart) (λ q found. below_all codes m q below found)
 
 module _ (axis : Axis) (count : ℕ) where
   of_axis : (v : Var) → IsOfStrips axis count v → IsOfAxis axis v
@@ -228,37 +176,9 @@ module _ (axis : Axis) (count : ℕ) where
           ends = has_row _ (is.ends i h);
         }
 
-    -- they are few
-    codes_apart : AllPairs (λ (a b : Name × Row). code_of a ≢ code_of b) rows
-    codes_apart i j d h g e =
-        let a = All-contains_itself rows i d (omega (arith, h, g)) in
-        let b = All-contains_itself rows j d g in
-        let s = is.small _ _ (listed _ a) in
-        let t = is.small _ _ (listed _ b) in
-        holds.once i j d h g (one_name _ _ (same_place _ _
-        (first_same _ _ _ _ _ _ s.first s.second t.first t.second e)
-        (second_same _ _ _ _ _ _ s.first s.second t.first t.second e)
-        (third_same _ _ _ _ _ _ s.first s.second t.first t.second e)
-        (s.third ∙ sym t.third)))
-
-    code_small : (named : Name × Row) → Contains rows named → code_of named < 2080374784
-    code_small named c =
-        let s = is.small _ _ (listed named c) in
-        code_below _ _ _ s.kind s.first s.second
-
-    codes_small : All (λ c. c < 2080374784) (map code_of rows)
-    codes_small = all_mapped
-      where
-        all_mapped : All (λ c. c < 2080374784) (map code_of rows)
-        all_mapped = All-map (λ c. c < 2080374784) code_of rows (all_listed (λ (named : Name × Row). code_of named < 2080374784) rows code_small)
-
-    few : length rows < 2 ^ 32
-    few = omega (arith, few_codes 2080374784 (map code_of rows) (pairs_mapped code_of (λ a b. a ≢ b) rows codes_apart) codes_small, length-map rows code_of)
-
     -- so they are differences that have least positions
     pub differences : AreDifferences axis rows
     differences = record {
-      few = few;
       names = holds.once;
       each = all_listed (λ (named : Name × Row). IsDifference axis named.1) rows (λ named c. difference named.1 (is.each named.0 named.1 (listed named c)));
       zero = has_row _ is.zero;

@@ -7,8 +7,8 @@ use Rattle.rt_rows.specs.declared.row.Var.{Var}
 use Rattle.rt_rows.specs.declared.row.Row.{Row}
 use Rattle.rt_rows.specs.declared.positions.Positions.{Positions}
 use Rattle.rt_rows.specs.Places.{places}
-use Rattle.rt_nets.specs.declared.job.Job.{Job}
-use Rattle.rt_nets.specs.Job.{strips_of}
+use Rattle.rt_view.specs.declared.job.Job.{Job}
+use Rattle.rt_view.specs.Job.{strips_of}
 use Rattle.rt_template.specs.Horizontal.{MeetsAcross, IsLeastAcross}
 use Rattle.rt_template.specs.Vertical.{MeetsUpwards, IsLeastUpwards}
 use Rattle.rt_place.specs.declared.placing.PlaceError.{PlaceError}

@@ -1,13 +1,13 @@
 //! The positions of a job, one axis after the other.
 ghost use Rattle.std.specs.Prelude.{◌≡◌, ◌≤◌, length, IfOk, IfErr};
-ghost use Rattle.rt_nets.specs.Job.{strips_of, IsJob};
+ghost use Rattle.rt_view.specs.Job.{strips_of, IsJob};
 ghost use Rattle.rt_place.specs.Placing.{ArePositionsOf, IsPlaceErrorOf, AreColumnsOf, AreHeightsOf, joined_of};
 
 use crate::rows::{rows_across, rows_upwards};
 use rt_base::{Axis, OutOfMemory};
-use rt_nets::Job;
 use rt_path::{PathError, longest};
 use rt_rows::Positions;
+use rt_view::Job;
 use std::alloc::Global;
 
 /// The most strips that are placed. (This project's own.)
@@ -52,7 +52,6 @@ pub fn place(alloc: Global, job: &Job) -> Result<Positions, PlaceError>
 // The least columns.
 fn place_across(alloc: Global, job: &Job) -> Result<Positions, PlaceError>
     requires job { IsJob job.now }
-    requires few { length (strips_of job.now) ≤ STRIPS_PLACED }
     ensures placed { IfOk result (AreColumnsOf job.now) }
     ensures refused { IfErr result (IsPlaceErrorOf job.now) }
 {
@@ -67,7 +66,6 @@ fn place_across(alloc: Global, job: &Job) -> Result<Positions, PlaceError>
 // The least bottoms and tops at the columns.
 fn place_upwards(alloc: Global, job: &Job, columns: &Positions) -> Result<Positions, PlaceError>
     requires job { IsJob job.now }
-    requires few { length (strips_of job.now) ≤ STRIPS_PLACED }
     requires columns { AreColumnsOf job.now columns.now }
     ensures placed { IfOk result (AreHeightsOf job.now columns.now) }
     ensures refused { IfErr result (IsPlaceErrorOf job.now) }

@@ -2,7 +2,7 @@
 ghost use Rattle.std.specs.Prelude.{IfOk};
 ghost use Rattle.rt_rows.specs.Order.{ListsNames};
 ghost use Rattle.rt_rows.specs.Places.{places};
-ghost use Rattle.rt_nets.specs.Job.{IsJob};
+ghost use Rattle.rt_view.specs.Job.{IsJob};
 ghost use Rattle.rt_template.specs.Horizontal.{RowAcross, HasAcross};
 ghost use Rattle.rt_template.specs.Vertical.{RowUpwards, HaveColumns};
 ghost use Rattle.rt_place.specs.Placing.{HoldsRows, AreRowsOf};
@@ -10,8 +10,8 @@ ghost use Rattle.rt_place.specs.Placing.{HoldsRows, AreRowsOf};
 use crate::order::in_source_order;
 use rt_base::{List, OutOfMemory};
 use rt_htemplate::{has_row_h, rows_h};
-use rt_nets::Job;
 use rt_rows::{Name, Positions, Row};
+use rt_view::Job;
 use rt_vtemplate::named_rows_v;
 use std::alloc::Global;
 

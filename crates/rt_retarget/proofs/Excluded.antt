@@ -9,9 +9,12 @@ use Rattle.gds_flat_laws.proofs.Refusals.{not_refused as flattened_not_refused}
 use Rattle.gds_stream.specs.declared.library.Library.{Library}
 use Rattle.gds_stream.proofs.Telling.{one_library, nowhere}
 use Rattle.rt_keys.specs.declared.error.TableError.TheVariants as table
+use Rattle.rt_layout.specs.declared.layout.Label.{Label}
 use Rattle.rt_rules.specs.Rules.{BreaksNoRule}
 use Rattle.rt_rules.proofs.Alike.{AreAlike as AreAlikeCells, breaks_none_alike}
 use Rattle.rt_rules.proofs.First.{first_breaks}
+use Rattle.rt_shapes.proofs.Alike.{sound_alike}
+use Rattle.rt_shapes.proofs.First.{first_unsound}
 use Rattle.rt_sizes.specs.Refusals.{RefusesSizes}
 use Rattle.rt_sizes.specs.SizesFile.{sizes_fault}
 use Rattle.rt_sizes.specs.Wishes.{wishes_fault}
@@ -26,8 +29,10 @@ use Rattle.rt_tech.specs.declared.sizes.Sizes.{Sizes}
 use Rattle.rt_tech.specs.Tech.{mask_count}
 use Rattle.rt_retarget.specs.declared.inputs.Inputs.{Inputs}
 use Rattle.rt_retarget.specs.Files.{Given, AreBuilt}
+use Rattle.rt_view.specs.Shapes.{HasSoundShapes}
 use Rattle.rt_retarget.specs.Stages.{AreRead, IsParsed, IsLaid, IsStripped}
-use Rattle.rt_retarget.specs.Ladder.{NoTableIsntRead, BadTableIsntRead, TwoFormsArentRead, NoSizesArentRead, BadSizesArentRead, MoreIsntParsed, NoStreamIsntParsed, UnflattenedIsntLaid, TooManyIsntStripped, UnsoundIsntSound, LabelsArentTaken, StraysArentWished}
+use Rattle.rt_retarget.specs.Ladder.{NoTableIsntRead, BadTableIsntRead, TwoFormsArentRead, NoSizesArentRead, BadSizesArentRead, MoreIsntParsed, NoStreamIsntParsed, UnflattenedIsntLaid, TooManyIsntStripped, MisshapenIsntShaped, UnsoundIsntSound, LabelsArentTaken, StraysArentWished}
+use Rattle.rt_retarget.proofs.Assembled.{matched}
 use Rattle.rt_retarget.proofs.Readings.{one_reading}
 
 -- no table
@@ -188,25 +193,40 @@ too_many_stripped files inputs library layout strips count is stripped =
     let count : length is.many.strips ≡ length strips = ap length same in
     omega (arith, many, few, count)
 
-alike_cells : (f g : Layout) → AreAlike f g → (m : ℕ) → AreAlikeCells (MaskCovers f m) (MaskCovers g m)
+-- so they cover the same cells
+pub alike_cells : (f g : Layout) → AreAlike f g → (m : ℕ) → AreAlikeCells (MaskCovers f m) (MaskCovers g m)
 alike_cells f g alike m = record { to = covers_too f g alike m; from = covers_too g f (back f g alike) m }
+
+pub misshapen_shaped : MisshapenIsntShaped
+misshapen_shaped files inputs library layout strips shape rect is shaped =
+    let parsed = shaped.stripped.laid.parsed in
+    let laid = same_laid files inputs library parsed is.inputs is.library is.layout is.stripped.laid in
+    let e = same_read files inputs library parsed is.inputs is.stripped.laid.parsed.read in
+    let alike = same_layout files inputs library layout is.layout shaped.stripped.laid laid in
+    let here = sound_alike inputs.tables.source layout.labels (MaskCovers layout) (MaskCovers is.layout) (alike_cells layout is.layout alike) shaped.sound_shapes in
+    let labels : HasSoundShapes inputs.tables.source (MaskCovers is.layout) is.layout.labels =
+    subst (λ (labels : List Label). HasSoundShapes inputs.tables.source (MaskCovers is.layout) labels) alike.labels here in
+    first_unsound is.inputs.tables.source (MaskCovers is.layout) is.layout.labels shape rect is.first
+    (subst (λ (i : Inputs). HasSoundShapes i.tables.source (MaskCovers is.layout) is.layout.labels) (sym e) labels)
 
 pub unsound_sound : UnsoundIsntSound
 unsound_sound files inputs library layout strips rule p q found needed is sound =
-    let parsed = sound.stripped.laid.parsed in
-    let laid = same_laid files inputs library parsed is.inputs is.library is.layout is.stripped.laid in
-    let e = same_read files inputs library parsed is.inputs is.stripped.laid.parsed.read in
-    let alike = same_layout files inputs library layout is.layout sound.stripped.laid laid in
-    let none = breaks_none_alike (pos 1) inputs.tables.source (MaskCovers layout) (MaskCovers is.layout) (λ m h. alike_cells layout is.layout alike m) sound.clean in
+    let stripped = sound.shaped.stripped in
+    let parsed = stripped.laid.parsed in
+    let other = is.shaped.stripped.laid in
+    let laid = same_laid files inputs library parsed is.inputs is.library is.layout other in
+    let e = same_read files inputs library parsed is.inputs other.parsed.read in
+    let alike = same_layout files inputs library layout is.layout stripped.laid laid in
+    let pairs = (matched files inputs parsed.read).source.pairs in
+    let none = breaks_none_alike (pos 1) inputs.tables.source pairs (MaskCovers layout) (MaskCovers is.layout) (λ m h. alike_cells layout is.layout alike m) sound.clean in
     first_breaks (pos 1) is.inputs.tables.source (MaskCovers is.layout) rule p q found needed is.broken
     (subst (λ (i : Inputs). BreaksNoRule (pos 1) i.tables.source (MaskCovers is.layout)) (sym e) none)
 
 pub labels_taken : LabelsArentTaken
 labels_taken files inputs library layout strips is taken =
-    let sound = taken.sound in
-    let parsed = sound.stripped.laid.parsed in
-    let laid = same_laid files inputs library parsed is.inputs is.library is.layout is.sound.stripped.laid in
-    let alike = same_layout files inputs library is.layout layout laid sound.stripped.laid in
+    let here = taken.sound.shaped.stripped.laid in
+    let laid = same_laid files inputs library here.parsed is.inputs is.library is.layout is.sound.shaped.stripped.laid in
+    let alike = same_layout files inputs library is.layout layout laid here in
     is.some_label (alike.labels ∙ taken.no_labels)
 
 -- sizes without a fault aren't refused
@@ -215,6 +235,6 @@ not_refused asked key cause refused none = let told = rw none at refused in cc
 
 pub strays_wished : StraysArentWished
 strays_wished files inputs library layout strips key cause is wished =
-    let parsed = wished.taken.sound.stripped.laid.parsed in
-    let e = same_read files inputs library parsed is.inputs is.taken.sound.stripped.laid.parsed.read in
+    let parsed = wished.taken.sound.shaped.stripped.laid.parsed in
+    let e = same_read files inputs library parsed is.inputs is.taken.sound.shaped.stripped.laid.parsed.read in
     not_refused is.inputs.asked key cause is.refused (subst (λ (i : Inputs). wishes_fault i.asked [] ≡ None) (sym e) wished.no_strays)

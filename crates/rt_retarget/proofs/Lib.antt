@@ -1,9 +1,11 @@
 pub mod Cells
+pub mod OneForm
 pub mod Readings
 pub mod Flattened
 pub mod Stripped
 pub mod Assembled
 pub mod Excluded
+pub mod Unlabelled
 pub mod Moving
 pub mod OneJob
 pub mod SameJobs

@@ -1,15 +1,17 @@
 -- From the job of the files, and what is written for it, to the relation of the headline; or to that it has no positions.
-use Rattle.std.proofs.Common.{◌≡◌, ℕ, ◌+◌, ◌<◌, ◌≤◌, ◌^◌, List, [], length, map, ap, ◌∙◌, sym, subst, arith}
+use Rattle.std.proofs.Common.{◌≡◌, ℕ, ◌+◌, ◌<◌, ◌≤◌, ◌^◌, List, [], length, map, AllPairs, ap, ◌∙◌, sym, subst, arith}
+use Rattle.std.proofs.lemmas.List.Elements.{recursion_from_All}
 use Rattle.rt_base.specs.declared.plane.Axis.{Axis}
 use Rattle.rt_cells.specs.Rectangles.{IsNonempty}
 use Rattle.gds_stream.specs.declared.library.Library.{Library}
-use Rattle.rt_nets.specs.declared.job.Job.{Job}
-use Rattle.rt_nets.specs.Job.{strips_of, IsJob, IsJobOf}
+use Rattle.rt_view.specs.declared.job.Job.{Job}
+use Rattle.rt_view.specs.Job.{strips_of, Whole, IsJob, IsJobOf}
 use Rattle.rt_strips.specs.Placed.{placed}
 use Rattle.rt_strips.specs.Table.{AreClimbsOf}
 use Rattle.rt_place.specs.Placing.{NoneMeetOf}
+use Rattle.rt_carry.specs.Texts.{IsNoted, AreNoted}
 use Rattle.rt_template.specs.Drawing.{drawn_area}
-use Rattle.rt_moved.proofs.Metals.{on_target}
+use Rattle.rt_moved.proofs.Source.{on_target}
 use Rattle.rt_moved.proofs.Extents.{moved_fits}
 use Rattle.rt_moved.proofs.Clean.{moved_breaks_no_rule}
 use Rattle.rt_written.specs.Written.{IsWrittenAs}
@@ -20,9 +22,12 @@ use Rattle.rt_retarget.specs.Moved.{IsMovedJob, Moved, IsMovedOut, drawing_of}
 use Rattle.rt_retarget.specs.Answers.{IsDone, IsInfeasible}
 use Rattle.rt_retarget.specs.Jobs.{AreMatched, IsReadSource, IsJobOfFiles, IsWrittenFor, inputs_of}
 use Rattle.rt_tech.specs.declared.sizes.Sizes.{Sizes}
+use Rattle.rt_tech.specs.Tech.{DoNotClash}
 use Rattle.rt_retarget.specs.declared.inputs.Inputs.{Inputs}
-use Rattle.rt_retarget.proofs.Assembled.{wished, few_placed}
-use Rattle.rt_retarget.proofs.Flattened.{drawn_layout, drawables}
+use Rattle.rt_retarget.proofs.OneForm.{speak_of_the_same}
+use Rattle.rt_retarget.proofs.Assembled.{matched, wished, few_placed}
+use Rattle.rt_retarget.proofs.Unlabelled.{noted_none}
+use Rattle.rt_retarget.proofs.Flattened.{drawn_noted, drawn_layout, drawables}
 
 from_zero : (i : ℕ) → i ≡ 0 + i
 from_zero i = omega arith
@@ -38,18 +43,25 @@ is_job source inputs library job matched is climbs s t wishes pairs = record {
   view = rw s is.cell.is_view;
   few = few_numbered _ is.cell.few;
   climbs = climbs;
-  source = rw s matched.source;
-  target = rw t matched.target;
+  source = rw s matched.source.measured;
+  target = rw t matched.target.measured;
+  source_pairs = rw s matched.source.pairs;
+  target_pairs = rw t matched.target.pairs;
   same_masks = rw (s, t) (sym matched.same_masks);
-  metals = rw s is.built.metals;
+  sound_source = Whole.whole (record {
+    valid = rw s matched.source.valid;
+    same_form = rw (s, t) (speak_of_the_same inputs.tables.source inputs.tables.target matched.source.valid matched.target.valid matched.same_form);
+    wiring = rw s is.built.wiring;
+    clean = rw s is.cell.clean;
+  });
   wishes = ap length wishes ∙ sym (ap length is.cell.is_view.channels);
   no_pairs = pairs;
 }
 
 -- what is written for a job is its drawing, read back, and clean
-moved_out : (job : Job) (library : Library) (cell : List ℕ) (bytes : List ℕ) → IsJob job → (written : IsWrittenFor job library.name cell bytes)
-    → IsMovedOut bytes cell library job written.drawn.at
-moved_out job library cell bytes is w =
+moved_out : (job : Job) (library : Library) (cell : List ℕ) (bytes : List ℕ) → IsJob job → AllPairs DoNotClash job.target.masks
+    → AreNoted job.target job.view.labels → (written : IsWrittenFor job library.name cell bytes) → IsMovedOut bytes cell library job written.drawn.at
+moved_out job library cell bytes is apart noted w =
     let at = w.drawn.at in
     let drawing = w.drawn.drawing in
     let across = w.drawn.across.extent.meets in
@@ -58,9 +70,12 @@ moved_out job library cell bytes is w =
     let drawable = drawables job.target job.target.grid at 0 (strips_of job)
     (λ i h. on_target job is i (record { below_count = h }))
     (λ i h. subst (λ (k : ℕ). IsNonempty (drawn_area job.target.grid at k)) (from_zero i) (fits.strips i (record { below_count = h })).nonempty) in
-    let polygons = subst (λ (name : List ℕ). IsWrittenAs job.target w.library name (drawing_of job at)) drawing.named
-    (drawn_layout job.target w.library w.flat (drawing_of job at) w.one_cell drawing.no_texts drawing.shapes drawable) in
-    let back = stream_reads_back job.target bytes w.library cell (drawing_of job at) is.job_of.target w.stream polygons in
+    let labels = drawing.texts.drawn in
+    let on_masks = drawn_noted job.target job.target.grid (strips_of job) at job.view.labels labels drawing.texts.are_drawn
+    (recursion_from_All (IsNoted job.target) job.view.labels noted) in
+    let written = subst (λ (name : List ℕ). IsWrittenAs job.target w.library name (drawing_of job at) labels) drawing.named
+    (drawn_layout job.target w.library w.flat (drawing_of job at) labels w.one_cell apart drawing.shapes drawing.texts.are drawable on_masks) in
+    let back = stream_reads_back job.target bytes w.library cell (drawing_of job at) labels is.job_of.target w.stream written in
     record {
       cell = w.flat;
       drawing = drawing;
@@ -72,7 +87,7 @@ moved_out job library cell bytes is w =
       layout = back.layout;
       read_back = back.flat;
       is_drawing = back.is;
-      clean = layout_keeps_rules job.target.grid job.target (drawing_of job at) back.layout (moved_breaks_no_rule job is at across upwards) back.is;
+      clean = layout_keeps_rules job.target.grid job.target is.job_of.target_pairs (drawing_of job at) labels back.layout (moved_breaks_no_rule job is at across upwards) back.is;
     }
 
 module _ (files : Given) (library : Library) (asked : Sizes) (job : Job) (is : IsJobOfFiles files library asked job) where
@@ -95,6 +110,14 @@ module _ (files : Given) (library : Library) (asked : Sizes) (job : Job) (is : I
     job_of = is.job_of;
   }
 
+  -- it has no label
+  pub unlabelled : job.view.labels ≡ []
+  unlabelled = is.source_read.cell.is_view.labels ∙ is.source_read.cell.no_labels
+
+  -- so the target has a text pair for each
+  noted : AreNoted job.target job.view.labels
+  noted = noted_none job unlabelled
+
   -- a run that ends well
   pub done : (out bytes : List ℕ) → IsWrittenFor job library.name asked.cell bytes → out ≡ bytes → IsDone files out
   done out bytes w same = record {
@@ -111,7 +134,7 @@ module _ (files : Given) (library : Library) (asked : Sizes) (job : Job) (is : I
       from = moved_job;
       across = w.drawn.across;
       upwards = w.drawn.upwards;
-      to = moved_out job library asked.cell bytes a_job w;
+      to = moved_out job library asked.cell bytes a_job (matched files (inputs_of job asked) is.read).target.valid.apart noted w;
     });
   }
 

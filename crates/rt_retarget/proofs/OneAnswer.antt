@@ -6,8 +6,8 @@ use Rattle.gds_stream.specs.declared.cell.Flat.{Flat}
 use Rattle.gds_stream.specs.declared.library.Library.{Library}
 use Rattle.gds_stream.specs.Written.{written}
 use Rattle.rt_carry.specs.Shapes.{shape_of}
-use Rattle.rt_nets.specs.declared.job.Job.{Job}
-use Rattle.rt_nets.specs.Job.{strips_of}
+use Rattle.rt_view.specs.declared.job.Job.{Job}
+use Rattle.rt_view.specs.Job.{strips_of}
 use Rattle.rt_place.specs.Placing.{NoneMeetOf}
 use Rattle.rt_rows.specs.declared.row.Var.{Var}
 use Rattle.rt_rows.specs.declared.row.Var.TheVariants.{L, R, B, T}
@@ -23,6 +23,7 @@ use Rattle.rt_retarget.specs.declared.answer.Outcome.TheVariants.{Done, Infeasib
 use Rattle.rt_retarget.specs.Moved.{drawing_of}
 use Rattle.rt_retarget.specs.OneAnswer.{AreSameJobs, InfeasibleIsntDone, InfeasibleAlongOne, DoneIsOne, OneOutcome}
 use Rattle.rt_retarget.proofs.OneJob.{one_job}
+use Rattle.rt_retarget.proofs.Unlabelled.{texts_none}
 use Rattle.rt_retarget.proofs.SameJobs.{same_strips, flipped, is_strip, meets_across, meets_upwards}
 
 module _ (a b : Job) (same : AreSameJobs a b) where
@@ -127,7 +128,8 @@ done_is_one files out other a b =
     (c.named ∙ ap (λ (s : Sizes). s.cell) one.one_asked ∙ sym d.named)
     (c.units ∙ ap (λ (t : Tech). t.units) one.same_jobs.target ∙ sym d.units)
     shapes
-    (c.no_texts ∙ sym d.no_texts) in
+    (texts_none m.job m.at m.to.cell.texts (m.from.job_of.view.labels ∙ m.from.no_labels) c.texts
+    ∙ sym (texts_none n.job n.at n.to.cell.texts (n.from.job_of.view.labels ∙ n.from.no_labels) d.texts)) in
     m.to.bytes ∙ ap written cell ∙ sym n.to.bytes
 
 pub one_outcome : OneOutcome

@@ -3,12 +3,16 @@ use Rattle.std.proofs.Common.{◌≡◌, ℕ, suc, Bool, true, false, ◌<ℤ◌
 use Rattle.std.proofs.Props.{props}
 use mathlib.Core.HLevel.{is_prop→PathP}
 use Rattle.gds_flat.proofs.Flattening.{one_flat}
+use Rattle.gds_flat.specs.Laws.{AreAlike}
 use Rattle.gds_flat.specs.Refused.{IsFlattened}
 use Rattle.gds_stream.proofs.Telling.{one_library}
 use Rattle.rt_layout.specs.declared.layout.Layout.{Layout}
-use Rattle.rt_nets.specs.declared.shapes.View.{View}
-use Rattle.rt_nets.specs.Job.{strips_of}
-use Rattle.rt_nets.specs.View.{IsViewOf}
+use Rattle.rt_layout.specs.Covering.{MaskCovers}
+use Rattle.rt_shapes.proofs.OneLower.{lowers_are_one_list}
+use Rattle.rt_view.specs.declared.shapes.View.{View}
+use Rattle.rt_view.specs.Job.{strips_of}
+use Rattle.rt_view.specs.Lowers.{AreLowersOf}
+use Rattle.rt_view.specs.View.{IsViewOf}
 use Rattle.rt_strips.specs.declared.listing.Strip.{Strip}
 use Rattle.rt_strips.specs.Channels.{IsStripCell}
 use Rattle.rt_strips.specs.Placed.{Placed, placed}
@@ -19,7 +23,7 @@ use Rattle.rt_tech.specs.declared.sizes.Wish.{Wish}
 use Rattle.rt_tech.specs.declared.table.Tech.{Tech}
 use Rattle.rt_tech.specs.Tech.{mask_count}
 use Rattle.rt_retarget.specs.OneAnswer.{OneJob}
-use Rattle.rt_retarget.proofs.Excluded.{strips_too}
+use Rattle.rt_retarget.proofs.Excluded.{strips_too, alike_cells}
 use Rattle.rt_retarget.proofs.Readings.{one_reading}
 
 -- a strip is told by its mask and its sides
@@ -49,12 +53,13 @@ one_list (a ∷ s) (b ∷ t) e =
     let others : map placed s ≡ map placed t = cc in
     rw (one_strip a b first, one_list s t others) refl
 
--- a view of metals is told by its strips and labels
-one_view : (f g : Layout) (tech : Tech) (v w : View) → IsViewOf f tech v → IsViewOf g tech w → v.strips.list ≡ w.strips.list → v.labels ≡ w.labels → v ≡ w
-one_view f g tech v w a b list labels =
+-- a view is told by its strips and labels, and by the cells that its masks cover
+one_view : (f g : Layout) → AreAlike f g → (tech : Tech) (v w : View) → IsViewOf f tech v → IsViewOf g tech w → v.strips.list ≡ w.strips.list → v.labels ≡ w.labels → v ≡ w
+one_view f g alike tech v w a b list labels =
     let masks = a.strips.counted ∙ sym b.strips.counted in
     let channels = a.channels ∙ sym b.channels in
-    let lowers = a.lowers ∙ ap (λ (s : List Strip). replicate (length s) 0) list ∙ sym b.lowers in
+    let lowers = lowers_are_one_list tech (MaskCovers f) (MaskCovers g) (alike_cells f g alike) (map placed v.strips.list) a.strips.strips_are.nonempty v.lowers w.lowers a.lowers
+    (subst (λ (s : List Strip). AreLowersOf tech (MaskCovers g) (map placed s) w.lowers) (sym list) b.lowers) in
     let kinds = a.kinds ∙ ap (λ (s : List Strip). replicate (length s) 0) list ∙ sym b.kinds in
     λ i. record { strips = record { list = list i; masks = masks i }; channels = channels i; lowers = lowers i; kinds = kinds i; labels = labels i }
 
@@ -85,7 +90,7 @@ one_job files asked library job asked' library' job' m n =
     let strips = strips_are_one_list (IsStripCell n.layout job'.source) (suc (mask_count job'.source)) (strips_of job) (strips_of job')
     (strips_too m.layout n.layout alike job'.source (strips_of job) view.strips.strips_are) n.job_of.view.strips.strips_are in
     let labels = view.labels ∙ m.no_labels ∙ sym n.no_labels ∙ sym n.job_of.view.labels in
-    let same = one_view m.layout n.layout job'.source job.view job'.view view n.job_of.view (one_list job.view.strips.list job'.view.strips.list strips) labels in
+    let same = one_view m.layout n.layout alike job'.source job.view job'.view view n.job_of.view (one_list job.view.strips.list job'.view.strips.list strips) labels in
     let climbs : AreClimbsOf (strips_of job) job'.climbs = subst (λ (s : List Placed). AreClimbsOf s job'.climbs) (sym strips) n.job_of.climbs in
     record {
       one_asked = read.sizes;

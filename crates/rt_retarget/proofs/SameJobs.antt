@@ -1,15 +1,23 @@
 -- What the templates say of a job, they say of the same job: none of them reads how it keeps its climbs.
-use Rattle.std.proofs.Common.{◌≡◌, ℕ, ℤ, List, map, inl, inr, ap, sym, subst}
-use Rattle.rt_nets.specs.declared.job.Job.{Job}
-use Rattle.rt_nets.specs.declared.shapes.View.{View}
-use Rattle.rt_nets.specs.Job.{strips_of}
+use Rattle.std.proofs.Common.{◌≡◌, ℕ, ℤ, ◌⊎◌, List, Option, Some, None, IfSome, IsSomeAnd, length, slice_index, map, inl, inr, ap, sym, subst}
+use Rattle.rt_cuts.specs.Cuts.{grown}
+use Rattle.rt_family.specs.Laws.{IsOfMask}
+use Rattle.rt_family.specs.Strips.{IsHost}
+use Rattle.rt_rules.specs.Pairs.{enclose_at, apart_at, lower_of}
+use Rattle.rt_tech.specs.declared.table.Apart.{Apart as Distance}
+use Rattle.rt_tech.specs.declared.table.Enclose.{Enclose as Enclosure}
+use Rattle.rt_tech.specs.declared.table.Tech.{Tech}
+use Rattle.rt_view.specs.declared.job.Job.{Job}
+use Rattle.rt_view.specs.declared.shapes.View.{View}
+use Rattle.rt_view.specs.Job.{strips_of}
 use Rattle.rt_rows.specs.declared.name.Name.{Name}
 use Rattle.rt_rows.specs.declared.row.Row.{Row}
 use Rattle.rt_rows.specs.declared.row.Var.{Var}
-use Rattle.rt_strips.specs.Placed.{Placed, placed}
+use Rattle.rt_strips.specs.Placed.{Placed, placed, strip_at, mask_of}
 use Rattle.rt_strips.specs.Standing.{IsStrip, AreOfOneMask, StandsOn, Touch}
+use Rattle.rt_template.specs.Between.{IsStripOf, IsCutStrip, IsStripIn, IsHostIn, IsHostUnder, IsLowestHost, IsHighestHost, AreKeptApart, AreOnTwoSides, IsOffRight}
 use Rattle.rt_template.specs.Horizontal.{AreOfOneDrawnMask, IsKeptRightOf, RowAcross, MeetsAcross}
-use Rattle.rt_template.specs.Vertical.{LiesBetween, IsSeenFrom, AreOpen, IsKeptAbove, CoversBoth, IsChain, IsWholeChain, RowUpwards, MeetsUpwards}
+use Rattle.rt_template.specs.Vertical.{LiesBetween, IsSeenFrom, AreOpen, IsKeptAbove, CoversBoth, IsChain, IsWholeChain, IsOffAbove, RowUpwards, MeetsUpwards}
 use Rattle.rt_retarget.specs.OneAnswer.{AreSameJobs}
 
 pub same_strips : (a b : Job) → AreSameJobs a b → strips_of a ≡ strips_of b
@@ -29,6 +37,70 @@ flipped a b same =
       wishes = sym same.wishes;
       pairs = sym same.pairs;
     }
+
+-- what follows of each entry follows of the one that is there
+of_the_same : {X : Type 0} (P Q : X → Type 0) → ((x : X) → P x → Q x) → (o : Option X) → IsSomeAnd o P → IsSomeAnd o Q
+of_the_same P Q each (Some x) h = each x h
+of_the_same P Q each None h = h
+
+-- enclosures and distances speak of the same strips
+module _ (a b : Job) (same : AreSameJobs a b) where
+  strip_of : (m i : ℕ) → IsStripOf a m i → IsStripOf b m i
+  strip_of m i = subst (λ (strips : List Placed). IsOfMask (length strips) (mask_of strips) m i) (same_strips a b same)
+
+  strip_in : (m : ℕ) (lower : Option ℕ) (i : ℕ) → IsStripIn a m lower i → IsStripIn b m lower i
+  strip_in m lower i h = record {
+    of_mask = strip_of m i h.of_mask;
+    lies = subst (λ (v : View). IfSome lower (λ l. slice_index v.lowers i ≡ l)) same.view h.lies;
+  }
+
+  pub cut_strip : (i : ℕ) → IsCutStrip a i → IsCutStrip b i
+  cut_strip i h = record { strip = rw (same_strips a b same) at h.strip; is_cut = rw (same_strips a b same, same.source) at h.is_cut }
+
+  host_in : (i h : ℕ) (enclose : Enclosure) → IsHostIn a enclose i h → IsHostIn b enclose i h
+  host_in i h enclose k = record {
+    enclosed = subst (λ (s : Tech). IsStripIn b enclose.cut (lower_of s enclose) i) same.source (strip_in enclose.cut (lower_of a.source enclose) i k.enclosed);
+    overlaps = subst
+        (λ (strips : List Placed). IsHost (IsOfMask (length strips) (mask_of strips) enclose.mask) (λ n. (strip_at strips n).area) (grown enclose.number (strip_at strips i).area) h)
+        (same_strips a b same) k.overlaps;
+  }
+
+  pub host_under : (q i h : ℕ) → IsHostUnder a q i h → IsHostUnder b q i h
+  host_under q i h k =
+      subst (λ (s : Tech). IsSomeAnd (enclose_at s q) (λ enclose. IsHostIn b enclose i h)) same.source
+      (of_the_same (λ enclose. IsHostIn a enclose i h) (λ enclose. IsHostIn b enclose i h) (host_in i h) (enclose_at a.source q) k)
+
+  kept_apart : (apart : Distance) (i j : ℕ) → AreKeptApart a apart i j → AreKeptApart b apart i j
+  kept_apart apart i j h = record { first = strip_in apart.a apart.on i h.first; second = strip_of apart.b j h.second }
+
+  either_apart : (i j : ℕ) (apart : Distance) → AreKeptApart a apart i j ⊎ AreKeptApart a apart j i → AreKeptApart b apart i j ⊎ AreKeptApart b apart j i
+  either_apart i j apart (inl h) = inl (kept_apart apart i j h)
+  either_apart i j apart (inr h) = inr (kept_apart apart j i h)
+
+  pub two_sides : (q i j : ℕ) → AreOnTwoSides a q i j → AreOnTwoSides b q i j
+  two_sides q i j h =
+      subst (λ (s : Tech). IsSomeAnd (apart_at s q) (λ apart. AreKeptApart b apart i j ⊎ AreKeptApart b apart j i)) same.source
+      (of_the_same (λ apart. AreKeptApart a apart i j ⊎ AreKeptApart a apart j i) (λ apart. AreKeptApart b apart i j ⊎ AreKeptApart b apart j i)
+      (either_apart i j) (apart_at a.source q) h)
+
+  pub off_right : (q i j : ℕ) → IsOffRight a q i j → IsOffRight b q i j
+  off_right q i j h = record {
+    sides = two_sides q i j h.sides;
+    beside = rw (same_strips a b same) at h.beside;
+    near = rw (same_strips a b same, same.source) at h.near;
+  }
+
+pub lowest_host : (a b : Job) → AreSameJobs a b → (q i h : ℕ) → IsLowestHost a q i h → IsLowestHost b q i h
+lowest_host a b same q i h k = record {
+  host = host_under a b same q i h k.host;
+  lowest = λ n c. rw (same_strips a b same) at (k.lowest n (host_under b a (flipped a b same) q i n c));
+}
+
+pub highest_host : (a b : Job) → AreSameJobs a b → (q i h : ℕ) → IsHighestHost a q i h → IsHighestHost b q i h
+highest_host a b same q i h k = record {
+  host = host_under a b same q i h k.host;
+  highest = λ n c. rw (same_strips a b same) at (k.highest n (host_under b a (flipped a b same) q i n c));
+}
 
 module _ (a b : Job) (same : AreSameJobs a b) where
   pub is_strip : (i : ℕ) → IsStrip (strips_of a) i → IsStrip (strips_of b) i
@@ -65,6 +137,10 @@ module _ (a b : Job) (same : AreSameJobs a b) where
   row_across name row (RowAcross.share i j t l r) =
       rw (same_strips a b same, same.target) (RowAcross.share i j (touch i j t) (rw (same_strips a b same) at l) (rw (same_strips a b same) at r))
   row_across name row (RowAcross.gap i j k) = rw (same_strips a b same, same.target) (RowAcross.gap i j (kept_right i j k))
+  row_across name row (RowAcross.size i c) = rw (same_strips a b same, same.target) (RowAcross.size i (cut_strip a b same i c))
+  row_across name row (RowAcross.off q i j k) = rw same.target (RowAcross.off q i j (off_right a b same q i j k))
+  row_across name row (RowAcross.inl q i h k) = rw same.target (RowAcross.inl q i h (host_under a b same q i h k))
+  row_across name row (RowAcross.inr q i h k) = rw same.target (RowAcross.inr q i h (host_under a b same q i h k))
 
 -- positions that meet the template across of the one meet that of the other
 pub meets_across : (a b : Job) → AreSameJobs a b → (at : Var → ℤ) → MeetsAcross a at → MeetsAcross b at
@@ -119,16 +195,27 @@ module _ (columns : Var → ℤ) where
       highest = λ k c s. h.highest k (covers_both b a (flipped a b same) h.x h.u k c) (stands b a (flipped a b same) j k s);
     }
 
+    off_above : (q i j : ℕ) → IsOffAbove a columns q i j → IsOffAbove b columns q i j
+    off_above q i j h = record {
+      sides = two_sides a b same q i j h.sides;
+      above = rw (same_strips a b same) at h.above;
+      near = rw same.target at h.near;
+    }
+
     row_upwards : (name : Name) (row : Row) → RowUpwards a columns name row → RowUpwards b columns name row
     row_upwards name row (RowUpwards.lo i s) = RowUpwards.lo i (is_strip a b same i s)
     row_upwards name row (RowUpwards.hi i s) = RowUpwards.hi i (is_strip a b same i s)
     row_upwards name row RowUpwards.zero = RowUpwards.zero
     row_upwards name row RowUpwards.top = RowUpwards.top
-    row_upwards name row (RowUpwards.tall i s) = RowUpwards.tall i (is_strip a b same i s)
+    row_upwards name row (RowUpwards.tall i s) = rw (same_strips a b same, same.source, same.target) (RowUpwards.tall i (is_strip a b same i s))
     row_upwards name row (RowUpwards.on i j s) = RowUpwards.on i j (stands a b same i j s)
     row_upwards name row (RowUpwards.under i j s) = RowUpwards.under i j (stands a b same i j s)
     row_upwards name row (RowUpwards.gap i j k) = rw (same_strips a b same, same.target) (RowUpwards.gap i j (kept_above i j k))
     row_upwards name row (RowUpwards.run i j c) = rw (same_strips a b same, same.target) (RowUpwards.run i j (whole_chain i j c))
+    row_upwards name row (RowUpwards.size i c) = rw (same_strips a b same, same.target) (RowUpwards.size i (cut_strip a b same i c))
+    row_upwards name row (RowUpwards.off q i j k) = rw same.target (RowUpwards.off q i j (off_above q i j k))
+    row_upwards name row (RowUpwards.inb q i h k) = rw same.target (RowUpwards.inb q i h (lowest_host a b same q i h k))
+    row_upwards name row (RowUpwards.int q i h k) = rw same.target (RowUpwards.int q i h (highest_host a b same q i h k))
 
 -- and those that meet the template upwards
 pub meets_upwards : (a b : Job) → AreSameJobs a b → (columns at : Var → ℤ) → MeetsUpwards a columns at → MeetsUpwards b columns at

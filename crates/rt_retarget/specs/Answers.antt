@@ -2,6 +2,7 @@
 use Rattle.std.specs.Prelude.{◌≡◌, ◌≢◌, ℕ, ℤ, pos, ◌⊎◌, List, []}
 use Rattle.rt_base.specs.declared.plane.Axis.{Axis}
 use Rattle.rt_base.specs.declared.plane.Cell.{Cell}
+use Rattle.rt_base.specs.declared.plane.Rect.{Rect}
 use Rattle.gds_grammar.specs.declared.cause.Cause.{Cause}
 use Rattle.gds_grammar.specs.Stops.{Stops}
 use Rattle.gds_stream.specs.declared.library.Library.{Library}
@@ -13,7 +14,9 @@ use Rattle.rt_layout.specs.Covering.{MaskCovers}
 use Rattle.toml.specs.Data.{Members}
 use Rattle.rt_keys.specs.declared.error.TableError.TheVariants as table
 use Rattle.rt_keys.specs.Document.{IsDocument}
-use Rattle.rt_nets.specs.declared.job.Job.{Job}
+use Rattle.rt_view.specs.declared.job.Job.{Job}
+use Rattle.rt_view.specs.declared.shapes.Shape.{Shape}
+use Rattle.rt_view.specs.Shapes.{IsFirstShape}
 use Rattle.rt_place.specs.Placing.{NoneMeetOf}
 use Rattle.rt_rules.specs.Rules.{IsFirstBreach}
 use Rattle.rt_strips.specs.Channels.{AreTooMany}
@@ -33,11 +36,11 @@ use Rattle.rt_retarget.specs.declared.answer.Outcome.TheVariants.{Done, Infeasib
 use Rattle.rt_retarget.specs.declared.answer.What.{What}
 use Rattle.rt_retarget.specs.declared.answer.What.TheVariants.{Items, Strips}
 use Rattle.rt_retarget.specs.declared.answer.Fault.{Fault}
-use Rattle.rt_retarget.specs.declared.answer.Fault.TheVariants.{TableToml, BadTable, TablesDiffer, SizesToml, BadSizes, NotBuilt, BadStream, Unsupported, NoSuchStructure, Cyclic, UnmappedLayer, ArrayStep, CoordinateRange, TooDeep, TooMany, SourceRule, OutOfMemory}
+use Rattle.rt_retarget.specs.declared.answer.Fault.TheVariants.{TableToml, BadTable, TablesDiffer, SizesToml, BadSizes, NotBuilt, BadStream, Unsupported, NoSuchStructure, Cyclic, UnmappedLayer, ArrayStep, CoordinateRange, TooDeep, TooMany, SourceShape, SourceRule, OutOfMemory}
 use Rattle.rt_retarget.specs.declared.inputs.Inputs.{Inputs}
 use Rattle.rt_retarget.specs.declared.source.TheConstants.{STRIP_LIMIT}
 use Rattle.rt_retarget.specs.Files.{Given, AreTables, AreBuilt}
-use Rattle.rt_retarget.specs.Stages.{AreRead, IsParsed, IsLaid, IsStripped, IsSound, IsTaken, IsWished}
+use Rattle.rt_retarget.specs.Stages.{AreRead, IsParsed, IsLaid, IsStripped, IsShaped, IsSound, IsTaken, IsWished}
 use Rattle.rt_retarget.specs.Moved.{IsMovedJob, Moved}
 
 -- the bytes aren't a TOML document
@@ -113,13 +116,22 @@ abbrev pub AreTooManyOf : Given → What → ℕ → Type 0
 AreTooManyOf files Items count = IsNotFlattened files (flat.TooMany count)
 AreTooManyOf files Strips count = HasTooManyStrips files count
 
--- the strips are few, and the rule is the first of the source's table that its layout breaks; two cells and the number found show it
-pub record IsUnsound (files : Given) (rule : RuleName) (p q : Cell) (found needed : ℤ) : Type 0 where
+-- the strips are few, and the shape is the first of a sound source that the layout hasn't; the rectangle shows where
+pub record IsMisshapen (files : Given) (shape : Shape) (rect : Rect) : Type 0 where
   pub inputs : Inputs
   pub library : Library
   pub layout : Layout
   pub strips : List Placed
   pub stripped : IsStripped files inputs library layout strips
+  pub first : IsFirstShape inputs.tables.source (MaskCovers layout) layout.labels shape rect
+
+-- the shapes are sound, and the rule is the first of the source's table that its layout breaks; two cells and the number found show it
+pub record IsUnsound (files : Given) (rule : RuleName) (p q : Cell) (found needed : ℤ) : Type 0 where
+  pub inputs : Inputs
+  pub library : Library
+  pub layout : Layout
+  pub strips : List Placed
+  pub shaped : IsShaped files inputs library layout strips
   pub broken : IsFirstBreach (pos 1) inputs.tables.source (MaskCovers layout) rule p q found needed
 
 -- the layout is sound, but has a label: labels aren't moved yet
@@ -186,5 +198,6 @@ IsFaultOf files (ArrayStep offset) = IsNotFlattened files (flat.ArrayStep offset
 IsFaultOf files (CoordinateRange offset) = IsNotFlattened files (flat.CoordinateRange offset)
 IsFaultOf files TooDeep = IsNotFlattened files flat.TooDeep
 IsFaultOf files (TooMany what count) = AreTooManyOf files what count
+IsFaultOf files (SourceShape shape rect) = IsMisshapen files shape rect
 IsFaultOf files (SourceRule rule p q found needed) = IsUnsound files rule p q found needed
 IsFaultOf files OutOfMemory = Unit {0}

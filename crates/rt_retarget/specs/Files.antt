@@ -1,5 +1,5 @@
 -- The four files, and what the tables and the sizes file hold.
-use Rattle.std.specs.Prelude.{◌≡◌, ℕ, List, [], All}
+use Rattle.std.specs.Prelude.{◌≡◌, ℕ, List, All}
 use Rattle.rt_tech.specs.declared.table.Tech.{Tech}
 use Rattle.rt_tech.specs.declared.table.Which.TheVariants.{Source, Target}
 use Rattle.rt_tech.specs.declared.sizes.Mirror.TheVariants as mirror
@@ -7,7 +7,7 @@ use Rattle.rt_tech.specs.declared.sizes.Sizes.{Sizes}
 use Rattle.rt_tables.specs.Tables.{IsTechOf}
 use Rattle.rt_tables.specs.Forms.{HaveSameForm}
 use Rattle.rt_sizes.specs.SizesFile.{DescribesSizes}
-use Rattle.rt_nets.specs.View.{IsMetal}
+use Rattle.rt_view.specs.Shapes.{IsWiring}
 
 -- the bytes of the four files
 pub record Given : Type 0 where
@@ -32,8 +32,7 @@ pub record AreFiles (stable ttable sizes : List ℕ) (source_table target_table 
   pub tables : AreTables stable ttable source_table target_table
   pub sizes_read : DescribesSizes target_table sizes asked
 
--- what is built so far: masks of metal alone, no distances between masks, no mirror
+-- what is built so far: masks of metal and cuts alone, no mirror
 pub record AreBuilt (source_table : Tech) (asked : Sizes) : Type 0 where
-  pub metals : All IsMetal source_table.masks
-  pub no_aparts : source_table.aparts ≡ []
+  pub wiring : All IsWiring source_table.masks
   pub no_mirror : asked.mirror ≡ mirror.None

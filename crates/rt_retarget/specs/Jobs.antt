@@ -11,22 +11,23 @@ use Rattle.rt_keys.specs.declared.error.TableError.{TableError}
 use Rattle.rt_keys.specs.declared.error.TableError.TheVariants as table
 use Rattle.rt_layout.specs.declared.layout.Layout.{Layout}
 use Rattle.rt_layout.specs.Covering.{MaskCovers}
-use Rattle.rt_nets.specs.declared.shapes.View.{View}
-use Rattle.rt_nets.specs.View.{IsViewOf}
-use Rattle.rt_nets.specs.declared.job.Job.{Job}
-use Rattle.rt_nets.specs.Job.{IsJobOf}
+use Rattle.rt_view.specs.declared.shapes.View.{View}
+use Rattle.rt_view.specs.View.{IsViewOf}
+use Rattle.rt_view.specs.declared.job.Job.{Job}
+use Rattle.rt_view.specs.Job.{IsJobOf}
 use Rattle.rt_rows.specs.declared.row.Var.{Var}
+use Rattle.rt_rules.specs.Pairs.{HasMeasuredPairs}
 use Rattle.rt_rules.specs.Rules.{BreaksNoRule}
 use Rattle.rt_sizes.specs.SizesFile.{IsFaultySizes}
 use Rattle.rt_sizes.specs.Wishes.{wishes_fault}
 use Rattle.rt_strips.specs.Placed.{Placed, placed}
-use Rattle.rt_tables.specs.Forms.{AreParted}
+use Rattle.rt_tables.specs.Forms.{AreParted, HaveSameForm}
 use Rattle.rt_tables.specs.Tables.{IsTechOf, HasTableFault}
 use Rattle.rt_tech.specs.declared.sizes.Sizes.{Sizes}
 use Rattle.rt_tech.specs.declared.table.Tech.{Tech}
 use Rattle.rt_tech.specs.declared.table.Which.{Which}
 use Rattle.rt_tech.specs.declared.table.Which.TheVariants.{Source, Target}
-use Rattle.rt_tech.specs.Tech.{mask_count, IsMeasured}
+use Rattle.rt_tech.specs.Tech.{mask_count, IsMeasured, IsValidTech}
 use Rattle.rt_template.specs.Horizontal.{IsLeastAcross}
 use Rattle.rt_template.specs.Vertical.{IsLeastUpwards}
 use Rattle.rt_carry.specs.Drawings.{IsDrawingOf}
@@ -36,13 +37,20 @@ use Rattle.rt_retarget.specs.declared.answer.What.TheVariants.{Items}
 use Rattle.rt_retarget.specs.declared.inputs.Inputs.{Inputs}
 use Rattle.rt_retarget.specs.declared.source.TheConstants.{STRIP_LIMIT}
 use Rattle.rt_retarget.specs.Files.{Given, AreBuilt}
-use Rattle.rt_retarget.specs.Stages.{AreRead, IsParsed, IsLaid, IsStripped, IsTaken}
+use Rattle.rt_retarget.specs.Stages.{AreRead, IsParsed, IsLaid, IsStripped, IsShaped, IsTaken}
 use Rattle.rt_retarget.specs.Answers.{IsNoDocument, IsFaultOf}
 
--- two tables whose numbers are in their ranges, of as many masks
+-- a valid table, and what the layers below ask of it
+pub record IsUsable (table : Tech) : Type 0 where
+  pub valid : IsValidTech table
+  pub measured : IsMeasured table
+  pub pairs : HasMeasuredPairs table
+
+-- two valid tables of one form
 pub record AreMatched (source_table target_table : Tech) : Type 0 where
-  pub source : IsMeasured source_table
-  pub target : IsMeasured target_table
+  pub source : IsUsable source_table
+  pub target : IsUsable target_table
+  pub same_form : HaveSameForm source_table target_table
   pub same_masks : mask_count source_table ≡ mask_count target_table
 
 -- a refusal of a table, as a refusal of the job
@@ -119,7 +127,7 @@ IsFaultOfLaid inputs layout fault = (files : Given) (library : Library) → IsLa
 
 abbrev pub IsFaultOfView : Inputs → View → Fault → Type 0
 IsFaultOfView inputs view fault = (files : Given) (library : Library) (layout : Layout) → IsViewOf layout inputs.tables.source view
-    → IsStripped files inputs library layout (map placed view.strips.list) → IsFaultOf files fault
+    → IsShaped files inputs library layout (map placed view.strips.list) → IsFaultOf files fault
 
 abbrev pub IsFaultOfTaken : Inputs → Fault → Type 0
 IsFaultOfTaken inputs fault = (files : Given) (library : Library) (layout : Layout) (strips : List Placed)

@@ -2,6 +2,7 @@
 -- so of two answers of different stages one at most is true of the files, want of memory aside.
 use Rattle.std.specs.Prelude.{◌≢◌, ℕ, ℤ, List}
 use Rattle.rt_base.specs.declared.plane.Cell.{Cell}
+use Rattle.rt_base.specs.declared.plane.Rect.{Rect}
 use Rattle.gds_grammar.specs.declared.cause.Cause.{Cause}
 use Rattle.gds_stream.specs.declared.library.Library.{Library}
 use Rattle.gds_flat.specs.declared.error.FlatError.{FlatError}
@@ -11,10 +12,11 @@ use Rattle.rt_strips.specs.Placed.{Placed}
 use Rattle.rt_tech.specs.declared.rules.RuleName.{RuleName}
 use Rattle.rt_tech.specs.declared.table.TableCause.{TableCause}
 use Rattle.rt_tech.specs.declared.table.Which.{Which}
+use Rattle.rt_view.specs.declared.shapes.Shape.{Shape}
 use Rattle.rt_retarget.specs.declared.inputs.Inputs.{Inputs}
 use Rattle.rt_retarget.specs.Files.{Given}
-use Rattle.rt_retarget.specs.Stages.{AreRead, IsParsed, IsLaid, IsStripped, IsSound, IsTaken, IsWished}
-use Rattle.rt_retarget.specs.Answers.{IsNoTable, IsBadTable, AreOfTwoForms, HasNoSizes, HasBadSizes, AskForMore, IsNoStream, IsNotFlattened, HasTooManyStrips, IsUnsound, HasLabels, HasStraySizes}
+use Rattle.rt_retarget.specs.Stages.{AreRead, IsParsed, IsLaid, IsStripped, IsShaped, IsSound, IsTaken, IsWished}
+use Rattle.rt_retarget.specs.Answers.{IsNoTable, IsBadTable, AreOfTwoForms, HasNoSizes, HasBadSizes, AskForMore, IsNoStream, IsNotFlattened, HasTooManyStrips, IsMisshapen, IsUnsound, HasLabels, HasStraySizes}
 
 -- files of which a table is refused aren't read
 abbrev pub NoTableIsntRead : Type 0
@@ -50,6 +52,11 @@ UnflattenedIsntLaid = (files : Given) (inputs : Inputs) (library : Library) (lay
 abbrev pub TooManyIsntStripped : Type 0
 TooManyIsntStripped = (files : Given) (inputs : Inputs) (library : Library) (layout : Layout) (strips : List Placed) (count : ℕ)
     → HasTooManyStrips files count → IsStripped files inputs library layout strips → ⊥
+
+-- files whose layout has another shape than a sound source don't have its shapes
+abbrev pub MisshapenIsntShaped : Type 0
+MisshapenIsntShaped = (files : Given) (inputs : Inputs) (library : Library) (layout : Layout) (strips : List Placed) (shape : Shape) (rect : Rect)
+    → IsMisshapen files shape rect → IsShaped files inputs library layout strips → ⊥
 
 -- files whose layout breaks a rule aren't sound
 abbrev pub UnsoundIsntSound : Type 0

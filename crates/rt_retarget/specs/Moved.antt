@@ -9,8 +9,8 @@ use Rattle.gds_stream.specs.Written.{written}
 use Rattle.rt_carry.specs.Drawings.{IsDrawingOf}
 use Rattle.rt_layout.specs.declared.layout.Layout.{Layout}
 use Rattle.rt_layout.specs.Covering.{MaskCovers}
-use Rattle.rt_nets.specs.declared.job.Job.{Job}
-use Rattle.rt_nets.specs.Job.{strips_of, IsJobOf}
+use Rattle.rt_view.specs.declared.job.Job.{Job}
+use Rattle.rt_view.specs.Job.{strips_of, IsJobOf}
 use Rattle.rt_rows.specs.declared.row.Var.{Var}
 use Rattle.rt_rules.specs.Rules.{BreaksNoRule}
 use Rattle.rt_strips.specs.Placed.{Placed}
@@ -37,7 +37,7 @@ pub record IsMovedJob (files : Given) (asked : Sizes) (library : Library) (job :
   pub job_of : IsJobOf layout job
 
 -- what is written: the bytes of the drawn cell, a stream; flattened by the target's table it is a layout of just the drawing's rectangles,
--- by mask and in order, which breaks no target rule
+-- by mask and in order, and just its labels, in order, which breaks no target rule
 pub record IsMovedOut (out name : List ℕ) (library : Library) (job : Job) (at : Var → ℤ) : Type 0 where
   pub cell : Flat
   pub drawing : IsDrawingOf job at library.name name cell
@@ -48,7 +48,7 @@ pub record IsMovedOut (out name : List ℕ) (library : Library) (job : Job) (at 
   pub units : moved.units ≡ job.target.units
   pub layout : Layout
   pub read_back : IsFlatOf moved.structures job.target name layout
-  pub is_drawing : IsLayoutOf job.target (drawing_of job at) layout
+  pub is_drawing : IsLayoutOf job.target (drawing_of job at) drawing.texts.drawn layout
   pub clean : BreaksNoRule job.target.grid job.target (MaskCovers layout)
 
 -- the bytes of out are the source, moved: its strips at the least positions that meet both templates

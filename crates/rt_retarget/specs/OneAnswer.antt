@@ -2,8 +2,8 @@
 use Rattle.std.specs.Prelude.{◌≡◌, ℕ, List}
 use Rattle.rt_base.specs.declared.plane.Axis.{Axis}
 use Rattle.gds_stream.specs.declared.library.Library.{Library}
-use Rattle.rt_nets.specs.declared.job.Job.{Job}
-use Rattle.rt_nets.specs.Job.{strips_of}
+use Rattle.rt_view.specs.declared.job.Job.{Job}
+use Rattle.rt_view.specs.Job.{strips_of}
 use Rattle.rt_strips.specs.Standing.{IsStrip}
 use Rattle.rt_strips.specs.Table.{tells}
 use Rattle.rt_tech.specs.declared.sizes.Sizes.{Sizes}

@@ -9,6 +9,7 @@ use Rattle.rt_rules.specs.Rules.{BreaksNoRule}
 use Rattle.rt_sizes.specs.Wishes.{wishes_fault}
 use Rattle.rt_strips.specs.Channels.{AreLayoutStrips}
 use Rattle.rt_strips.specs.Placed.{Placed}
+use Rattle.rt_view.specs.Shapes.{HasSoundShapes}
 use Rattle.rt_retarget.specs.declared.inputs.Inputs.{Inputs}
 use Rattle.rt_retarget.specs.declared.source.TheConstants.{STRIP_LIMIT}
 use Rattle.rt_retarget.specs.Files.{Given, AreFiles, AreBuilt}
@@ -34,9 +35,14 @@ pub record IsStripped (files : Given) (inputs : Inputs) (library : Library) (lay
   pub are_strips : AreLayoutStrips layout inputs.tables.source strips
   pub few : length strips ≤ STRIP_LIMIT
 
--- and the layout breaks no rule of the source's table
-pub record IsSound (files : Given) (inputs : Inputs) (library : Library) (layout : Layout) (strips : List Placed) : Type 0 where
+-- and the layout has the shapes of a sound source
+pub record IsShaped (files : Given) (inputs : Inputs) (library : Library) (layout : Layout) (strips : List Placed) : Type 0 where
   pub stripped : IsStripped files inputs library layout strips
+  pub sound_shapes : HasSoundShapes inputs.tables.source (MaskCovers layout) layout.labels
+
+-- and it breaks no rule of the source's table
+pub record IsSound (files : Given) (inputs : Inputs) (library : Library) (layout : Layout) (strips : List Placed) : Type 0 where
+  pub shaped : IsShaped files inputs library layout strips
   pub clean : BreaksNoRule (pos 1) inputs.tables.source (MaskCovers layout)
 
 -- and the layout has no label: labels aren't moved yet

@@ -1,8 +1,9 @@
 //! What a retargeting answers.
 use gds_flat::Odd;
 use gds_stream::Cause;
-use rt_base::{Axis, Cell, List, Text};
+use rt_base::{Axis, Cell, List, Rect, Text};
 use rt_tech::{RuleName, TableCause, Which};
+use rt_view::Shape;
 use thiserror::Error;
 
 /// What a retargeting gives.
@@ -134,6 +135,15 @@ pub enum Fault {
         what: What,
         /// How many there are; 2^64 - 1 where there are more.
         count: u64,
+    },
+    /// The source has this shape, the first of those that a sound source doesn't have.
+    #[error("a source shape")]
+    SourceShape {
+        /// The shape.
+        shape: Shape,
+        /// The least rectangle around a piece that has it; of a label the square of side 1 whose lower left corner is its point. In source database
+        /// units.
+        rect: Rect,
     },
     /// The source breaks this rule of its own table, the first one that it breaks.
     #[error("the source breaks a rule")]

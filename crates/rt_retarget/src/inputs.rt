@@ -5,7 +5,7 @@ ghost use Rattle.rt_tables.specs.Tables.{IsTechOf};
 ghost use Rattle.rt_tables.specs.Forms.{HaveSameForm};
 ghost use Rattle.rt_sizes.specs.SizesFile.{DescribesSizes};
 ghost use Rattle.rt_sizes.specs.Wishes.{wishes_fault};
-ghost use Rattle.rt_nets.specs.View.{IsMetal};
+ghost use Rattle.rt_view.specs.Shapes.{IsWiring};
 ghost use Rattle.rt_retarget.specs.Files.{AreTables, AreFiles, AreBuilt, IsTargetOf};
 ghost use Rattle.rt_retarget.specs.Jobs.{IsTableFaultOf, IsFormFaultOf, IsSizesFaultOf, IsFaultOfTarget, IsFaultOfTables, IsFaultOfInputs, IsFaultOfTaken};
 
@@ -104,20 +104,25 @@ fn read_asked(alloc: Global, bytes: &[u8], target: &Tech) -> Result<Sizes, Fault
     }
 }
 
-/// Whether the files ask for what is built: masks of metal alone, no distances between masks, no mirror.
+/// Whether the files ask for what is built: masks of metal and cuts alone, no mirror.
 pub fn are_built(source: &Tech, asked: &Sizes) -> bool
     ensures { MatchBool result (AreBuilt source.now asked.now) (AreBuilt source.now asked.now → ⊥) }
 {
-    are_metals(source.masks.as_slice())
-        && source.aparts.as_slice().is_empty()
-        && asked.mirror == Mirror::None
+    are_wiring(source.masks.as_slice()) && asked.mirror == Mirror::None
 }
 
-// Whether all masks are metals.
-fn are_metals(masks: &[Mask]) -> bool
-    ensures { MatchBool result (All IsMetal masks.now) (All IsMetal masks.now → ⊥) }
+// Whether all masks are metals or cuts.
+fn are_wiring(masks: &[Mask]) -> bool
+    ensures { MatchBool result (All IsWiring masks.now) (All IsWiring masks.now → ⊥) }
 {
-    masks.iter().all(|mask| mask.role == Role::Metal)
+    masks.iter().all(is_wiring)
+}
+
+// Whether a mask is one of metal or of cuts.
+fn is_wiring(mask: &Mask) -> bool
+    ensures { MatchBool result (IsWiring mask.now) (IsWiring mask.now → ⊥) }
+{
+    mask.role == Role::Metal || mask.role == Role::Cut
 }
 
 /// That the sizes file has sizes for no device, since the cell has none; or the first that it has.

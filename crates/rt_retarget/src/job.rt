@@ -10,10 +10,10 @@ use crate::source::read_source;
 use gds_stream::Library;
 use rt_arena::Reads;
 use rt_base::List;
-use rt_nets::Job;
 use rt_place::PlaceError;
 use rt_strips::Climbs;
 use rt_tech::Sizes;
+use rt_view::Job;
 use std::alloc::Global;
 
 // What is moved: the job, the library that its strips are from, and what is asked for.
@@ -28,10 +28,10 @@ struct Work {
 ///
 /// The four files are the source stream, its rule table, the target's rule table and the sizes file. They are looked at
 /// in this order, and the first that holds is answered: `TableToml` and `BadTable` of the source's table, then of the
-/// target's; `TablesDiffer`; `SizesToml` and `BadSizes`; `NotBuilt`, where a mask isn't metal, there is a distance between
-/// masks or a mirror is asked for; `BadStream`; the refusals of the flattening, `TooMany` of items among them; `TooMany` of
-/// strips; `SourceRule`; `NotBuilt`, where the layout has a label; `BadSizes`, where there are sizes for a device; `Infeasible` across and
-/// upwards, where no positions meet the template of that axis. `OutOfMemory` comes only for want of memory, and want of memory is
+/// target's; `TablesDiffer`; `SizesToml` and `BadSizes`; `NotBuilt`, where a mask is neither metal nor a cut or a mirror is
+/// asked for; `BadStream`; the refusals of the flattening, `TooMany` of items among them; `TooMany` of strips; `SourceShape`; `SourceRule`;
+/// `NotBuilt`, where the layout has a label; `BadSizes`, where there are sizes for a device;
+/// `Infeasible` across and upwards, where no positions meet the template of that axis. `OutOfMemory` comes only for want of memory, and want of memory is
 /// answered in no other form. No planes are read yet, so the ledger of reads stays as it is.
 pub fn retarget<L>(
     alloc: Global,

@@ -1,6 +1,6 @@
 //! The output: the drawing of a job at its least positions, and its stream.
-ghost use Rattle.std.specs.Prelude.{◌<◌, ◌≤◌, length, IfOk, IfErr};
-ghost use Rattle.rt_nets.specs.Job.{strips_of, IsJob};
+ghost use Rattle.std.specs.Prelude.{◌≡◌, ◌<◌, ◌≤◌, [], length, IfOk, IfErr};
+ghost use Rattle.rt_view.specs.Job.{strips_of, IsJob};
 ghost use Rattle.rt_place.specs.Placing.{ArePositionsOf, IsPlaceErrorOf};
 ghost use Rattle.rt_retarget.specs.declared.source.TheConstants.{STRIP_LIMIT};
 ghost use Rattle.rt_retarget.specs.Jobs.{IsDrawnFor, IsWrittenFor};
@@ -8,12 +8,12 @@ ghost use Rattle.rt_retarget.specs.Jobs.{IsDrawnFor, IsWrittenFor};
 use gds_stream::{Flat, write_stream};
 use rt_base::{OutOfMemory, Text};
 use rt_carry::draw;
-use rt_nets::Job;
 use rt_place::{PlaceError, place};
 use rt_rows::Positions;
+use rt_view::Job;
 use std::alloc::Global;
 
-/// The stream of the job's drawing at its least positions, in the library and under the cell's name; or the axis along which it has none.
+/// The stream of the drawing of a job without labels at its least positions, in the library and under the cell's name; or the axis along which it has none.
 pub fn stream_of(
     alloc: Global,
     job: &Job,
@@ -21,6 +21,7 @@ pub fn stream_of(
     cell: &Text,
 ) -> Result<Vec<u8>, PlaceError>
     requires job { IsJob job.now }
+    requires unlabelled { job.now.view.labels ≡ [] }
     requires few { length (strips_of job.now) ≤ STRIP_LIMIT }
     requires named { 0 < length cell.now }
     requires cell_short { length cell.now ≤ 65530 }
@@ -34,6 +35,7 @@ pub fn stream_of(
 }
 
 // The stream of the drawing at the positions.
+#[tactic(auto, using(crate::proofs::Unlabelled::texts_short))]
 fn drawn_stream(
     alloc: Global,
     job: &Job,
@@ -42,6 +44,7 @@ fn drawn_stream(
     cell: &Text,
 ) -> Result<Vec<u8>, OutOfMemory>
     requires job { IsJob job.now }
+    requires unlabelled { job.now.view.labels ≡ [] }
     requires positions { ArePositionsOf job.now at.now }
     requires named { 0 < length cell.now }
     requires cell_short { length cell.now ≤ 65530 }
@@ -53,6 +56,7 @@ fn drawn_stream(
 }
 
 // The drawing at the positions.
+#[tactic(auto, using(crate::proofs::Unlabelled::noted_none))]
 fn drawing_of(
     alloc: Global,
     job: &Job,
@@ -61,6 +65,7 @@ fn drawing_of(
     cell: &Text,
 ) -> Result<Flat, OutOfMemory>
     requires job { IsJob job.now }
+    requires unlabelled { job.now.view.labels ≡ [] }
     requires positions { ArePositionsOf job.now at.now }
     ensures { IfOk result (IsDrawnFor job.now library.now cell.now) }
 {

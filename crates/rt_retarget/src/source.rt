@@ -1,16 +1,16 @@
 //! The source: its library, the flat layout of its cell, the layout's view, and the rules that it keeps.
-ghost use Rattle.std.specs.Prelude.{◌≡◌, ◌≢◌, ◌≤◌, pos, length, [], All, IfOk, IfErr, OnOk, MatchBool};
+ghost use Rattle.std.specs.Prelude.{◌≡◌, ◌≢◌, ◌≤◌, pos, length, [], IfOk, IfErr, OnOk, MatchBool};
 ghost use Rattle.gds_flat.specs.Drawn.{AreDrawable};
 ghost use Rattle.gds_flat.specs.Refused.{IsFlattened};
 ghost use Rattle.gds_stream.specs.Contents.{Stream};
-ghost use Rattle.rt_nets.specs.View.{IsMetal, IsViewOf, IsView};
-ghost use Rattle.rt_retarget.specs.declared.answer.Fault.TheVariants.{OutOfMemory as NoMemory};
+ghost use Rattle.rt_view.specs.View.{IsViewOf, IsView};
 ghost use Rattle.rt_rules.specs.Rules.{BreaksNoRule};
 ghost use Rattle.rt_strips.specs.Channels.{IsStripsOf};
-ghost use Rattle.rt_tech.specs.Tech.{mask_count, IsMeasured};
+ghost use Rattle.rt_shapes.specs.Touching.{ArePlain};
+ghost use Rattle.rt_tech.specs.Tech.{mask_count};
 ghost use Rattle.rt_drc.specs.Rows.{cells_of};
 ghost use Rattle.rt_retarget.specs.Files.{AreBuilt};
-ghost use Rattle.rt_retarget.specs.Jobs.{AreMatched, IsReadSource, IsSoundView, IsCheckedCell, IsFaultOfRead, IsFaultOfParsed, IsFaultOfLaid, IsFaultOfView};
+ghost use Rattle.rt_retarget.specs.Jobs.{AreMatched, IsUsable, IsReadSource, IsSoundView, IsCheckedCell, IsFaultOfRead, IsFaultOfParsed, IsFaultOfLaid, IsFaultOfView};
 
 use crate::answer::{Fault, What};
 use crate::inputs::{Inputs, are_built, check_strays};
@@ -19,9 +19,10 @@ use gds_flat::flatten;
 use gds_stream::{Library, StreamError, read_stream};
 use rt_drc::check_rules;
 use rt_layout::Layout;
-use rt_nets::{NetError, View, view_of};
+use rt_nets::view_of;
 use rt_strips::{StripError, Strips, strips_of};
 use rt_tech::{RuleError, Tech};
+use rt_view::{NetError, View};
 use std::alloc::Global;
 
 /// The most strips of a cell that is moved. (This project's own.)
@@ -101,16 +102,17 @@ fn flat_cell(alloc: Global, library: &Library, inputs: &Inputs) -> Result<Layout
     }
 }
 
-// The view of a layout that has few strips and breaks no rule of the source's table.
+// The view of a layout that has few strips and the shapes of a sound source, and breaks no rule of the source's table.
 fn sound_view(alloc: Global, layout: &Layout, inputs: &Inputs) -> Result<View, Fault>
     requires tables { AreMatched inputs.now.tables.source inputs.now.tables.target }
     requires built { AreBuilt inputs.now.tables.source inputs.now.asked }
     requires masks { length layout.now.masks ≡ mask_count inputs.now.tables.source }
+    requires points { ArePlain layout.now.labels }
     ensures view { IfOk result (IsSoundView inputs.now layout.now) }
     ensures refused { IfErr result (IsFaultOfLaid inputs.now layout.now) }
 {
     let strips = layout_strips(alloc, layout, inputs)?;
-    let view = layout_view(alloc, layout, strips, &inputs.tables.source)?;
+    let view = layout_view(alloc, layout, strips, inputs)?;
     check_source(alloc, &view, inputs)?;
     Ok(view)
 }
@@ -133,25 +135,33 @@ fn layout_strips(alloc: Global, layout: &Layout, inputs: &Inputs) -> Result<Stri
     }
 }
 
-// The view of a layout of metals.
-fn layout_view(alloc: Global, layout: &Layout, strips: Strips, table: &Tech) -> Result<View, Fault>
-    requires metals { All IsMetal table.now.masks }
-    requires strips { IsStripsOf layout.now table.now strips }
-    ensures view { IfOk result (IsViewOf layout.now table.now) }
+// The view of a layout, where it has the shapes of a sound source; or the first that it hasn't.
+fn layout_view(
+    alloc: Global,
+    layout: &Layout,
+    strips: Strips,
+    inputs: &Inputs,
+) -> Result<View, Fault>
+    requires built { AreBuilt inputs.now.tables.source inputs.now.asked }
+    requires masks { length layout.now.masks ≡ mask_count inputs.now.tables.source }
+    requires points { ArePlain layout.now.labels }
+    requires strips { IsStripsOf layout.now inputs.now.tables.source strips }
+    requires few { length strips.list ≤ STRIP_LIMIT }
+    ensures view { IfOk result (IsViewOf layout.now inputs.now.tables.source) }
     ensures same { IfOk result (λ view. view.strips ≡ strips) }
-    ensures refused { IfErr result (λ fault. fault ≡ NoMemory) }
+    ensures refused { IfErr result (IsFaultOfLaid inputs.now layout.now) }
 {
-    match view_of(alloc, layout, strips, table) {
+    match view_of(alloc, layout, strips, &inputs.tables.source) {
         Ok(view) => Ok(view),
         Err(NetError::OutOfMemory) => Err(Fault::OutOfMemory),
-        Err(NetError::SourceShape { .. }) => unreachable!(),
+        Err(NetError::SourceShape { shape, rect }) => Err(Fault::SourceShape { shape, rect }),
     }
 }
 
 // That the view breaks no rule of the source's table, or the first rule that it breaks.
 fn check_source(alloc: Global, view: &View, inputs: &Inputs) -> Result<(), Fault>
     requires view { IsView inputs.now.tables.source view.now }
-    requires table { IsMeasured inputs.now.tables.source }
+    requires table { IsUsable inputs.now.tables.source }
     ensures kept { OnOk result (BreaksNoRule (pos 1) inputs.now.tables.source (cells_of view.now.strips.list)) }
     ensures refused { IfErr result (IsFaultOfView inputs.now view.now) }
 {

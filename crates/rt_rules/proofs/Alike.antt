@@ -1,21 +1,32 @@
 -- Rules are kept and broken alike by predicates that hold of the same cells.
-use Rattle.std.proofs.Common.{◌≡◌, ℕ, ◌+◌, ◌<◌, ℤ, pos, ◌+ℤ◌, List, [], ◌∷◌, ◌++◌, All, length, subst, arith, inl, inr}
+use Rattle.std.proofs.Common.{◌≡◌, ℕ, ◌<◌, ℤ, pos, ◌+ℤ◌, ◌*ℤ◌, List, [], ◌∷◌, ◌++◌, All, Option, Some, None, IfSome, refl, subst, inl, inr}
 use Rattle.std.proofs.lemmas.List.Elements.{All-nil, All-cons, All-head, All-tail}
+use Rattle.std.proofs.lemmas.Option.{slice_get_within}
 use Rattle.rt_base.specs.declared.plane.Cell.{Cell}
 use Rattle.rt_cells.specs.Line.{IsRun, IsGap}
 use Rattle.rt_cells.specs.Cells.{row_of, transposed, Joined, MeetAtCornerAlone}
 use Rattle.rt_cells.specs.Cells.Joined.{here, onward}
+use Rattle.rt_cells.specs.Rectangles.{Rectangle}
 use Rattle.rt_tech.specs.declared.rules.RuleName.{RuleName}
 use Rattle.rt_tech.specs.declared.rules.RuleName.TheVariants.{Width, Space, Size, Enclose, Cap, Ext, Cross, Apart}
 use Rattle.rt_tech.specs.declared.rules.RuleError.{RuleError}
 use Rattle.rt_tech.specs.declared.rules.RuleError.TheVariants.{Broken, OutOfMemory}
-use Rattle.rt_tech.specs.declared.table.Mask.{Mask}
+use Rattle.rt_tech.specs.declared.table.Apart.{Apart as Distance}
+use Rattle.rt_tech.specs.declared.table.Enclose.{Enclose as Enclosure}
+use Rattle.rt_tech.specs.declared.table.Role.{Role as MaskRole}
+use Rattle.rt_tech.specs.declared.table.Role.TheVariants.{Metal, Gate, Active, Cut, Background}
 use Rattle.rt_tech.specs.declared.table.Tech.{Tech}
 use Rattle.rt_tech.specs.Tech.{mask_count}
 use Rattle.rt_rules.specs.Width.{KeepsWidthAlongRows, KeepsWidth, WidthBreachAlongRows, WidthBreach}
 use Rattle.rt_rules.specs.Space.{KeepsGapsAlongRows, KeepsSpace, IsNarrowGap, SpaceBreach}
-use Rattle.rt_rules.specs.Rules.{mask_rules, rules_of, Keeps, Shows, BreaksNoRule, IsFirstBreach, IsBreachOf}
+use Rattle.rt_rules.specs.Cuts.{KeepsSize, SizeBreach, KeepsEnclosed, EnclosureBreach, KeepsApart, ApartBreach}
+use Rattle.rt_rules.specs.Pairs.{enclose_at, apart_at, lower_of, HasMeasuredPairs}
+use Rattle.rt_rules.specs.Pieces.{IsPieceAt, LiesIn}
+use Rattle.rt_rules.specs.Rules.{rule_by_role, rules_of, part_of, KeepsEnclose, KeepsDistance, ShowsEnclose, ShowsDistance, Keeps, Shows, BreaksNoRule, IsFirstBreach, IsBreachOf}
 use Rattle.rt_rules.proofs.First.{at_split}
+use Rattle.rt_rules.proofs.Listed.{rules_all}
+use Rattle.rt_rules.proofs.Measured.{enclose_named, apart_named}
+use Rattle.rt_rules.proofs.Pieces.{piece_along}
 
 -- the two hold of the same cells
 pub record AreAlike (P Q : ℤ → ℤ → Type 0) : Type 0 where
@@ -145,53 +156,140 @@ space_breach_alike P Q alike s x y u v found (inr (inr b)) = inr (inr (record {
   short = b.short;
 }))
 
--- a mask that the rule names has a number below the count
+-- a piece is one of cells that are the same
+pub piece_at_alike : (P Q : ℤ → ℤ → Type 0) → AreAlike P Q → (x y : ℤ) (r : Rectangle) → IsPieceAt P x y r → IsPieceAt Q x y r
+piece_at_alike P Q alike x y r at = record { piece = piece_along P Q alike.to alike.from r at.piece; holds = at.holds }
+
+-- the size rule is kept alike, and shown broken alike
+pub size_alike : (P Q : ℤ → ℤ → Type 0) → AreAlike P Q → (size : ℤ) → KeepsSize size P → KeepsSize size Q
+size_alike P Q alike size keeps x y c =
+    let (r, square, at) = keeps x y (alike.from x y c) in
+    (r, square, piece_at_alike P Q alike x y r at)
+
+pub size_breach_alike : (P Q : ℤ → ℤ → Type 0) → AreAlike P Q → (size x y u v found : ℤ) → SizeBreach size P x y u v found → SizeBreach size Q x y u v found
+size_breach_alike P Q alike size x y u v found b = record {
+  r = b.r;
+  piece = piece_along P Q alike.to alike.from b.r b.piece;
+  left = b.left;
+  bottom = b.bottom;
+  right = b.right;
+  top = b.top;
+  extent_found = b.extent_found;
+  another = b.another;
+}
+
+-- pieces lie in others alike
+pub lies_alike : (P Q R S : ℤ → ℤ → Type 0) → AreAlike P Q → AreAlike R S → (x y : ℤ) → LiesIn P R x y → LiesIn Q S x y
+lies_alike P Q R S alike others x y lies = record {
+  cell = alike.to x y lies.cell;
+  lies = λ u v walk. others.to u v (lies.lies u v (joined_alike Q P (alike_back P Q alike) x y u v walk));
+}
+
+module _ (P Q R S : ℤ → ℤ → Type 0) (alike : AreAlike P Q) (others : AreAlike R S) (number : ℤ) where
+  -- an enclosure is kept alike, and shown broken alike
+  pub enclosed_alike : KeepsEnclosed number P R → KeepsEnclosed number Q S
+  enclosed_alike keeps x y u v c within = others.to u v (keeps x y u v (alike.from x y c) within)
+
+  pub enclosure_breach_alike : (x y u v found : ℤ) → EnclosureBreach number P R x y u v found → EnclosureBreach number Q S x y u v found
+  enclosure_breach_alike x y u v found b = record {
+    first = alike.to x y b.first;
+    within = b.within;
+    missing = λ c. b.missing (others.from u v c);
+    gap_found = b.gap_found;
+    short = b.short;
+  }
+
+  -- a distance is kept alike, and shown broken alike
+  pub apart_alike : KeepsApart number P R → KeepsApart number Q S
+  apart_alike keeps x y u v c d = keeps x y u v (alike.from x y c) (others.from u v d)
+
+  pub apart_breach_alike : (x y u v found : ℤ) → ApartBreach number P R x y u v found → ApartBreach number Q S x y u v found
+  apart_breach_alike x y u v found b = record {
+    first = alike.to x y b.first;
+    second = others.to u v b.second;
+    gap_found = b.gap_found;
+    short = b.short;
+  }
+
+-- a mask that the rule of a mask names has a number below the count
 abbrev pub NamesBelow : ℕ → RuleName → Type 0
 NamesBelow count (Width m) = m < count
 NamesBelow count (Space m) = m < count
+NamesBelow count (Size m) = m < count
 NamesBelow count _ = Unit {0}
 
-first_below : (m n count : ℕ) → count ≡ m + (n + 1) → m < count
-first_below m n count e = omega arith
-
-rest_below : (m n count : ℕ) → count ≡ m + (n + 1) → count ≡ (m + 1) + n
-rest_below m n count e = omega arith
-
-rules_below : (m count : ℕ) (masks : List Mask) → count ≡ m + length masks → All (NamesBelow count) (mask_rules m masks)
-rules_below m count [] e = All-nil (NamesBelow count)
-rules_below m count (mask ∷ masks) e =
-    let h = first_below m (length masks) count (omega (arith, e)) in
-    All-cons (NamesBelow count) (Width m) (Space m ∷ mask_rules (m + 1) masks) h
-    (All-cons (NamesBelow count) (Space m) (mask_rules (m + 1) masks) h (rules_below (m + 1) count masks (rest_below m (length masks) count (omega (arith, e)))))
+shape_below : (m count : ℕ) (role : MaskRole) → m < count → NamesBelow count (rule_by_role role m)
+shape_below m count Cut h = h
+shape_below m count Metal h = h
+shape_below m count Gate h = h
+shape_below m count Active h = h
+shape_below m count Background h = h
 
 -- the rules of a table name its masks
 pub rules_name_masks : (tech : Tech) → All (NamesBelow (mask_count tech)) (rules_of tech)
-rules_name_masks tech = rules_below 0 (mask_count tech) tech.masks (omega arith)
+rules_name_masks tech =
+    rules_all (NamesBelow (mask_count tech)) tech
+    (λ m mask at.
+    let below = slice_get_within tech.masks m mask at in
+    (shape_below m (mask_count tech) mask.role below, below))
+    (λ n h. record {}) (λ n h. record {})
 
 before_split : {X : Type 0} (P : X → Type 0) (xs ys : List X) → All P (xs ++ ys) → All P xs
 before_split P [] ys all = All-nil P
 before_split P (x ∷ xs) ys all = All-cons P x xs (All-head P x (xs ++ ys) all) (before_split P xs ys (All-tail P x (xs ++ ys) all))
 
-module _ (unit : ℤ) (tech : Tech) (P Q : ℕ → ℤ → ℤ → Type 0) (alike : (m : ℕ) → m < mask_count tech → AreAlike (P m) (Q m)) where
+module _ (unit : ℤ) (tech : Tech) (pairs : HasMeasuredPairs tech) (P Q : ℕ → ℤ → ℤ → Type 0) (alike : (m : ℕ) → m < mask_count tech → AreAlike (P m) (Q m)) where
+  -- the cells that a rule counts are the same
+  pub part_alike : (m : ℕ) (on : Option ℕ) → m < mask_count tech → IfSome on (λ l. l < mask_count tech) → AreAlike (part_of P m on) (part_of Q m on)
+  part_alike m None h g = alike m h
+  part_alike m (Some l) h g = record {
+    to = lies_alike (P m) (Q m) (P l) (Q l) (alike m h) (alike l g);
+    from = lies_alike (Q m) (P m) (Q l) (P l) (alike_back (P m) (Q m) (alike m h)) (alike_back (P l) (Q l) (alike l g));
+  }
+
+  enclose_kept : (n : ℕ) (o : Option Enclosure) → enclose_at tech n ≡ o → KeepsEnclose unit tech P o → KeepsEnclose unit tech Q o
+  enclose_kept n None at k = k
+  enclose_kept n (Some e) at k =
+      let (cut, lower, mask) = enclose_named tech pairs n e at in
+      enclosed_alike _ (part_of Q e.cut (lower_of tech e)) (P e.mask) (Q e.mask) (part_alike e.cut (lower_of tech e) cut lower) (alike e.mask mask) (unit *ℤ e.number) k
+
+  enclose_shown : (n : ℕ) (o : Option Enclosure) → enclose_at tech n ≡ o → (p q : Cell) (found : ℤ) → ShowsEnclose unit tech P o p q found → ShowsEnclose unit tech Q o p q found
+  enclose_shown n None at p q found b = b
+  enclose_shown n (Some e) at p q found b =
+      let (cut, lower, mask) = enclose_named tech pairs n e at in
+      enclosure_breach_alike _ (part_of Q e.cut (lower_of tech e)) (P e.mask) (Q e.mask) (part_alike e.cut (lower_of tech e) cut lower) (alike e.mask mask) (unit *ℤ e.number) p.x p.y q.x q.y found b
+
+  distance_kept : (n : ℕ) (o : Option Distance) → apart_at tech n ≡ o → KeepsDistance unit tech P o → KeepsDistance unit tech Q o
+  distance_kept n None at k = k
+  distance_kept n (Some a) at k =
+      let (first, lower, second) = apart_named tech pairs n a at in
+      apart_alike _ (part_of Q a.a a.on) (P a.b) (Q a.b) (part_alike a.a a.on first lower) (alike a.b second) (unit *ℤ a.number) k
+
+  distance_shown : (n : ℕ) (o : Option Distance) → apart_at tech n ≡ o → (p q : Cell) (found : ℤ) → ShowsDistance unit tech P o p q found → ShowsDistance unit tech Q o p q found
+  distance_shown n None at p q found b = b
+  distance_shown n (Some a) at p q found b =
+      let (first, lower, second) = apart_named tech pairs n a at in
+      apart_breach_alike _ (part_of Q a.a a.on) (P a.b) (Q a.b) (part_alike a.a a.on first lower) (alike a.b second) (unit *ℤ a.number) p.x p.y q.x q.y found b
+
   keeps_alike : (rule : RuleName) → NamesBelow (mask_count tech) rule → Keeps unit tech P rule → Keeps unit tech Q rule
   keeps_alike (Width m) h k = width_alike (P m) (Q m) (alike m h) _ k
   keeps_alike (Space m) h k = space_alike (P m) (Q m) (alike m h) _ k
-  keeps_alike (Size m) h k = k
-  keeps_alike (Enclose m) h k = k
+  keeps_alike (Size m) h k = size_alike (P m) (Q m) (alike m h) _ k
+  keeps_alike (Enclose n) h k = enclose_kept n (enclose_at tech n) refl k
   keeps_alike Cap h k = k
   keeps_alike Ext h k = k
   keeps_alike Cross h k = k
-  keeps_alike (Apart m) h k = k
+  keeps_alike (Apart n) h k = distance_kept n (apart_at tech n) refl k
 
   shows_alike : (rule : RuleName) → NamesBelow (mask_count tech) rule → (p q : Cell) (found : ℤ) → Shows unit tech P rule p q found → Shows unit tech Q rule p q found
   shows_alike (Width m) h p q found b = width_breach_alike (P m) (Q m) (alike m h) _ p.x p.y q.x q.y found b
   shows_alike (Space m) h p q found b = space_breach_alike (P m) (Q m) (alike m h) _ p.x p.y q.x q.y found b
-  shows_alike (Size m) h p q found b = b
-  shows_alike (Enclose m) h p q found b = b
+  shows_alike (Size m) h p q found b = size_breach_alike (P m) (Q m) (alike m h) _ p.x p.y q.x q.y found b
+  shows_alike (Enclose n) h p q found b = enclose_shown n (enclose_at tech n) refl p q found b
   shows_alike Cap h p q found b = b
   shows_alike Ext h p q found b = b
   shows_alike Cross h p q found b = b
-  shows_alike (Apart m) h p q found b = b
+  shows_alike (Apart n) h p q found b = distance_shown n (apart_at tech n) refl p q found b
 
   all_alike : (rules : List RuleName) → All (NamesBelow (mask_count tech)) rules → All (Keeps unit tech P) rules → All (Keeps unit tech Q) rules
   all_alike [] h all = All-nil (Keeps unit tech Q)

@@ -1,5 +1,5 @@
 //! The rules of a mask over the cells that it covers, width and space, those of cuts and of two masks, size, enclosure and distance, and what
-//! shows that one is broken; and the rules of a table in their order, of which the first two are listed yet. Definitions, and the lemmas and laws on them: no code.
+//! shows that one is broken; and the rules of a table in their order, those of channels and kinds aside. Definitions, and the lemmas and laws on them: no code.
 #![tactic(auto)]
 
 mod laws;

@@ -21,7 +21,8 @@ refusal_of_lists contents source stable ttable sizes fault a b c d is = rw (a, b
 -- a rule is broken of a source's table that is valid
 pub broken_in : (contents : Given) (stable : List ℕ) (fault : Fault) → stable ≡ contents.stable → IsFaultOf contents fault → IsBrokenIn stable fault
 broken_in contents stable (refused.SourceRule rule p q found needed) same is =
-    (is.inputs.tables.source, rw same is.stripped.laid.parsed.read.files_are.tables.source_read)
+    (is.inputs.tables.source, rw same is.shaped.stripped.laid.parsed.read.files_are.tables.source_read)
+broken_in contents stable (refused.SourceShape shape rect) same is = tt
 broken_in contents stable (refused.TableToml which) same is = tt
 broken_in contents stable (refused.BadTable which key cause) same is = tt
 broken_in contents stable (refused.TablesDiffer key) same is = tt

@@ -3,11 +3,13 @@ use Rattle.std.specs.Prelude.{◌≡◌, ℕ, List, [], codes}
 use Rattle.rt_desk.specs.declared.outside.DeskError.{DeskError}
 use Rattle.rt_desk.specs.declared.outside.DeskError.TheVariants as unfetched
 use Rattle.rt_desk.specs.Desk.{Outside, IsStored, IsFailedStore, IsSaid, IsSaidInPart, IsFailedSay}
-use Rattle.rt_lines.specs.Lines.{usage_line, bad_stream_line, table_fault_line, table_not_toml_line, tables_differ_line, sizes_fault_line, sizes_not_toml_line, source_rule_line, unfetched_line, not_built_line, unsupported_line, no_such_structure_line, cyclic_line, unmapped_layer_line, array_step_line, coordinate_range_line, too_many_line, too_deep_line, infeasible_line}
+use Rattle.rt_lines.specs.Lines.{usage_line, bad_stream_line, table_fault_line, table_not_toml_line, tables_differ_line, sizes_fault_line, sizes_not_toml_line, source_shape_line, source_rule_line, unfetched_line, not_built_line, unsupported_line, no_such_structure_line, cyclic_line, unmapped_layer_line, array_step_line, coordinate_range_line, too_many_line, too_deep_line, infeasible_line}
 use Rattle.gds_flat.specs.declared.error.Odd.{Odd}
 use Rattle.gds_flat.specs.declared.error.Odd.TheVariants.{PathType, PathWidth, BoxElement, Magnification, Angle, Absolute, Slanted}
+use Rattle.rt_view.specs.declared.shapes.Shape.{Shape}
+use Rattle.rt_view.specs.declared.shapes.Shape.TheVariants.{CutShape, CutUpper, CutLower, Background, BentChannel, NoKind, TapChannel, StrayLabel}
 use Rattle.rt_retarget.specs.declared.answer.Fault.{Fault}
-use Rattle.rt_retarget.specs.declared.answer.Fault.TheVariants.{TableToml, BadTable, TablesDiffer, SizesToml, BadSizes, NotBuilt, BadStream, Unsupported, NoSuchStructure, Cyclic, UnmappedLayer, ArrayStep, CoordinateRange, TooDeep, TooMany, SourceRule}
+use Rattle.rt_retarget.specs.declared.answer.Fault.TheVariants.{TableToml, BadTable, TablesDiffer, SizesToml, BadSizes, NotBuilt, BadStream, Unsupported, NoSuchStructure, Cyclic, UnmappedLayer, ArrayStep, CoordinateRange, TooDeep, TooMany, SourceShape, SourceRule}
 use Rattle.rt_retarget.specs.declared.answer.Fault.TheVariants as refused
 use Rattle.rt_retarget.specs.declared.answer.What.{What}
 use Rattle.rt_retarget.specs.declared.answer.What.TheVariants.{Items, Strips}
@@ -38,6 +40,7 @@ number_of_refusal (UnmappedLayer layer number) = 6
 number_of_refusal (ArrayStep offset) = 6
 number_of_refusal (CoordinateRange offset) = 6
 number_of_refusal TooDeep = 6
+number_of_refusal (SourceShape shape rect) = 7
 number_of_refusal (SourceRule rule p q found needed) = 7
 number_of_refusal (TooMany what count) = 14
 number_of_refusal refused.OutOfMemory = NO_MEMORY
@@ -70,6 +73,17 @@ odd_word Angle = codes "Angle"
 odd_word Absolute = codes "Absolute"
 odd_word Slanted = codes "Slanted"
 
+-- a shape that a sound source doesn't have, as its variant is spelled
+abbrev pub shape_word : Shape → List ℕ
+shape_word CutShape = codes "CutShape"
+shape_word CutUpper = codes "CutUpper"
+shape_word CutLower = codes "CutLower"
+shape_word Background = codes "Background"
+shape_word BentChannel = codes "BentChannel"
+shape_word NoKind = codes "NoKind"
+shape_word TapChannel = codes "TapChannel"
+shape_word StrayLabel = codes "StrayLabel"
+
 -- of what there are too many
 abbrev pub what_word : What → List ℕ
 what_word Items = codes "items"
@@ -91,6 +105,7 @@ line_of_refusal (ArrayStep offset) names = array_step_line offset
 line_of_refusal (CoordinateRange offset) names = coordinate_range_line offset
 line_of_refusal TooDeep names = too_deep_line
 line_of_refusal (TooMany what count) names = too_many_line count (what_word what)
+line_of_refusal (SourceShape shape rect) names = source_shape_line (shape_word shape) rect
 line_of_refusal (SourceRule rule p q found needed) names = source_rule_line rule names p q found needed
 line_of_refusal refused.OutOfMemory names = []
 line_of_refusal NotBuilt names = not_built_line

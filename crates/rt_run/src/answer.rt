@@ -75,7 +75,7 @@ fn refusal_number(fault: &Fault) -> u8
         | Fault::ArrayStep { .. }
         | Fault::CoordinateRange { .. }
         | Fault::TooDeep => 6,
-        Fault::SourceRule { .. } => 7,
+        Fault::SourceShape { .. } | Fault::SourceRule { .. } => 7,
         Fault::OutOfMemory => NO_MEMORY,
         Fault::TooMany { .. } => 14,
         Fault::NotBuilt => 30,

@@ -1,7 +1,7 @@
 //! The line of each answer.
 ghost use Rattle.std.specs.Prelude.{◌≡◌, [], MatchBool};
 ghost use Rattle.rt_lines.specs.Said.{SaysLine};
-ghost use Rattle.rt_run.specs.Answers.{line_of, line_of_refusal, odd_word as word_of, what_word as what_of};
+ghost use Rattle.rt_run.specs.Answers.{line_of, line_of_refusal, odd_word as word_of, shape_word as shape_of, what_word as what_of};
 
 use crate::answer::{Answer, Refusal};
 use gds_flat::Odd;
@@ -9,10 +9,11 @@ use rt_desk::{Desk, DeskError};
 use rt_lines::{
     BrokenRule, say_array_step, say_bad_stream, say_coordinate_range, say_cyclic, say_infeasible,
     say_no_such_structure, say_not_built, say_pieces, say_sizes_fault, say_sizes_not_toml,
-    say_source_rule, say_table_fault, say_table_not_toml, say_tables_differ, say_too_deep,
-    say_too_many, say_unfetched, say_unmapped_layer, say_unsupported, say_usage,
+    say_source_rule, say_source_shape, say_table_fault, say_table_not_toml, say_tables_differ,
+    say_too_deep, say_too_many, say_unfetched, say_unmapped_layer, say_unsupported, say_usage,
 };
 use rt_retarget::{Fault, What};
+use rt_view::Shape;
 
 /// Whether an answer has a line: all have but that OUT was stored, that it wasn't, and want of memory.
 pub fn has_line(answer: &Answer<'_>) -> bool
@@ -70,6 +71,7 @@ fn say_refusal<D: Desk>(refusal: &Refusal, desk: &mut D) -> Result<(), DeskError
         Fault::CoordinateRange { offset } => say_coordinate_range(desk, *offset),
         Fault::TooDeep => say_too_deep(desk),
         Fault::TooMany { what, count } => say_too_many(desk, *count, what_word(what)),
+        Fault::SourceShape { shape, rect } => say_source_shape(desk, shape_word(shape), rect),
         Fault::SourceRule {
             rule,
             p,
@@ -114,6 +116,22 @@ fn odd_word(odd: &Odd) -> &'static str
         Odd::Angle => "Angle",
         Odd::Absolute => "Absolute",
         Odd::Slanted => "Slanted",
+    }
+}
+
+// A shape that a sound source doesn't have, as a word.
+fn shape_word(shape: &Shape) -> &'static str
+    ensures { result.now ≡ shape_of shape.now }
+{
+    match shape {
+        Shape::CutShape => "CutShape",
+        Shape::CutUpper => "CutUpper",
+        Shape::CutLower => "CutLower",
+        Shape::Background => "Background",
+        Shape::BentChannel => "BentChannel",
+        Shape::NoKind => "NoKind",
+        Shape::TapChannel => "TapChannel",
+        Shape::StrayLabel => "StrayLabel",
     }
 }
 

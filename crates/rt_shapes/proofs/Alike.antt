@@ -22,13 +22,13 @@ use Rattle.rt_strips.specs.Placed.{Placed, mask_of}
 use Rattle.rt_strips.specs.StripsOf.{AreStrips}
 use Rattle.rt_pieces.specs.Members.{IsOf, box_of}
 use Rattle.rt_pieces.proofs.Families.{held_alike}
-use Rattle.rt_nets.specs.declared.shapes.NetError.{NetError}
-use Rattle.rt_nets.specs.declared.shapes.NetError.TheVariants.{SourceShape, OutOfMemory}
-use Rattle.rt_nets.specs.declared.shapes.Shape.{Shape}
-use Rattle.rt_nets.specs.declared.shapes.Shape.TheVariants.{CutShape, CutUpper, CutLower, Background, BentChannel, NoKind, TapChannel, StrayLabel}
-use Rattle.rt_shapes.specs.Shapes.{IsWiring, LiesInOne, Touches, IsAroundPiece, HasNo, ShowsShape, HasSoundShapes, IsRefusal, shapes_in_order}
+use Rattle.rt_view.specs.declared.shapes.NetError.{NetError}
+use Rattle.rt_view.specs.declared.shapes.NetError.TheVariants.{SourceShape, OutOfMemory}
+use Rattle.rt_view.specs.declared.shapes.Shape.{Shape}
+use Rattle.rt_view.specs.declared.shapes.Shape.TheVariants.{CutShape, CutUpper, CutLower, Background, BentChannel, NoKind, TapChannel, StrayLabel}
+use Rattle.rt_view.specs.Shapes.{IsWiring, LiesInOne, Touches, IsAroundPiece, HasNo, ShowsShape, HasSoundShapes, IsRefusal, shapes_in_order}
 use Rattle.rt_shapes.specs.Cutting.{cells_by, AreOfMasks}
-use Rattle.rt_shapes.specs.Lowers.{AreLowersOf}
+use Rattle.rt_view.specs.Lowers.{AreLowersOf}
 
 module _ (P Q : ℤ → ℤ → Type 0) (alike : AreAlike P Q) where
   back : AreAlike Q P

@@ -24,7 +24,7 @@ use Rattle.rt_cells.proofs.Numbers.{last_or_before}
 use Rattle.rt_strips.specs.declared.contact.Seam.{Seam}
 use Rattle.rt_strips.specs.Seams.{AreSeamsOf}
 use Rattle.rt_tech.specs.declared.table.Tech.{Tech}
-use Rattle.rt_shapes.specs.Shapes.{IsCut, IsAroundPiece, ShowsBentCut, CutsAreRectangles}
+use Rattle.rt_view.specs.Shapes.{IsCut, IsAroundPiece, ShowsBentCut, CutsAreRectangles}
 use Rattle.rt_shapes.specs.Cutting.{cells_by, CutsStandAlone, IsInside, HasNumberOf, IsBoxOf, IsBoxAround, IsBentAt}
 
 overlap : (l r l' r' : ℤ) → l <ℤ r → l' <ℤ r' → l <ℤ r' → l' <ℤ r → int_max l l' <ℤ int_min r r'

@@ -11,9 +11,10 @@ use Rattle.rt_layout.specs.declared.layout.Label.{Label}
 use Rattle.rt_layout.specs.Covering.{MaskCovers}
 use Rattle.rt_rules.proofs.First.{at_split}
 use Rattle.rt_tech.specs.declared.table.Tech.{Tech}
-use Rattle.rt_nets.specs.declared.shapes.Shape.{Shape}
-use Rattle.rt_nets.specs.declared.shapes.Shape.TheVariants.{CutShape, CutUpper, CutLower, Background, BentChannel, NoKind, TapChannel, StrayLabel}
-use Rattle.rt_shapes.specs.Shapes.{IsAroundPiece, CutsAreRectangles, CutsLieInUpper, CutsLieInOneLower, LabelsTouch, HasNo, ShowsShape, HasSoundShapes, IsFirstShape, FirstShapeIsUnsound, OneRectangleAround}
+use Rattle.rt_view.specs.declared.shapes.Shape.{Shape}
+use Rattle.rt_view.specs.declared.shapes.Shape.TheVariants.{CutShape, CutUpper, CutLower, Background, BentChannel, NoKind, TapChannel, StrayLabel}
+use Rattle.rt_view.specs.Shapes.{IsAroundPiece, CutsAreRectangles, CutsLieInUpper, CutsLieInOneLower, LabelsTouch, HasNo, ShowsShape, HasSoundShapes, IsFirstShape}
+use Rattle.rt_shapes.specs.Laws.{FirstShapeIsUnsound, OneRectangleAround}
 
 module _ (tech : Tech) (cells : ℕ → ℤ → ℤ → Type 0) (labels : List Label) where
   -- a shape that is shown is there

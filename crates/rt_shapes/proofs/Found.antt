@@ -16,13 +16,13 @@ use Rattle.rt_strips.specs.declared.listing.Strips.{Strips}
 use Rattle.rt_strips.specs.Channels.{AreLayoutStrips, IsStripsOf}
 use Rattle.rt_strips.specs.Placed.{placed}
 use Rattle.rt_strips.specs.StripsOf.{AreStrips}
-use Rattle.rt_nets.specs.declared.shapes.NetError.{NetError}
-use Rattle.rt_nets.specs.declared.shapes.NetError.TheVariants.{SourceShape, OutOfMemory}
-use Rattle.rt_nets.specs.declared.shapes.Shape.{Shape}
-use Rattle.rt_nets.specs.declared.shapes.Shape.TheVariants.{CutShape, CutUpper, CutLower, StrayLabel}
-use Rattle.rt_shapes.specs.Shapes.{IsWiring, IsFirstShape, IsFirstOfCuts, IsCutErrorOf, IsShapeErrorOf, HasSoundCuts, LabelsTouch, ShowsStrayLabel}
+use Rattle.rt_view.specs.declared.shapes.NetError.{NetError}
+use Rattle.rt_view.specs.declared.shapes.NetError.TheVariants.{SourceShape, OutOfMemory}
+use Rattle.rt_view.specs.declared.shapes.Shape.{Shape}
+use Rattle.rt_view.specs.declared.shapes.Shape.TheVariants.{CutShape, CutUpper, CutLower, StrayLabel}
+use Rattle.rt_view.specs.Shapes.{IsWiring, IsFirstShape, IsFirstOfCuts, IsCutErrorOf, IsShapeErrorOf, HasSoundCuts, LabelsTouch, ShowsStrayLabel}
 use Rattle.rt_shapes.specs.Cutting.{cells_by, CutsStandAlone, AreOfMasks}
-use Rattle.rt_shapes.specs.Lowers.{AreLowersOf}
+use Rattle.rt_view.specs.Lowers.{AreLowersOf}
 use Rattle.rt_shapes.specs.Sides.{AllHaveUpper, AllHaveLower, IsLooseRefusal}
 use Rattle.rt_shapes.specs.Sound.{IsBentRefusal, IsBareRefusal, IsStrayRefusal}
 use Rattle.rt_shapes.proofs.Alike.{own_strips, strips_of_masks, cells_alike, has_no_alike, shows_alike, refusal_alike, lowers_alike}

@@ -8,3 +8,5 @@ pub mod Alike
 pub mod First
 pub mod Found
 pub mod Touched
+-- one list of lower masks
+pub mod OneLower

@@ -17,7 +17,7 @@ use Rattle.rt_strips.specs.Standing.{IsStrip}
 use Rattle.rt_cover.specs.Covering.{IsWhole, IsMissing, AreMissing, found_at}
 use Rattle.rt_pieces.specs.Members.{box_of}
 use Rattle.rt_pieces.proofs.Families.{held_alike}
-use Rattle.rt_shapes.specs.Shapes.{IsCut}
+use Rattle.rt_view.specs.Shapes.{IsCut}
 use Rattle.rt_shapes.specs.Cutting.{cells_by, place_of, bare_at, AreBareCells, IsCutAt}
 use Rattle.rt_shapes.specs.Sides.{CoversStrip, HasUpper, LacksUpper, IsLowerAt, LacksLower, IsOnlyOne, IsBareTable}
 use Rattle.rt_shapes.proofs.UpperLower.{upper_told, upper_is, lower_listed, lower_told, AreLowersBefore}

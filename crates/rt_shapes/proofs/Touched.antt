@@ -8,7 +8,7 @@ use Rattle.rt_strips.specs.StripsOf.{AreStrips}
 use Rattle.rt_strips.proofs.Placed.{placed_at, strip_there, strip_below}
 use Rattle.rt_cuts.proofs.Labels.{touched_holds, holds_touched}
 use Rattle.rt_pieces.specs.Members.{box_of}
-use Rattle.rt_shapes.specs.Shapes.{Touches}
+use Rattle.rt_view.specs.Shapes.{Touches}
 use Rattle.rt_shapes.specs.Cutting.{cells_by}
 use Rattle.rt_shapes.specs.Touching.{IsTouching}
 use Rattle.rt_shapes.proofs.Telling.{some_strip}

@@ -23,8 +23,8 @@ use Rattle.rt_strips.specs.Placed.{Placed, mask_of}
 use Rattle.rt_strips.specs.Standing.{IsStrip}
 use Rattle.rt_strips.specs.StripsOf.{AreStrips}
 use Rattle.rt_pieces.specs.Members.{IsOf, box_of}
-use Rattle.rt_shapes.specs.Shapes.{IsCut, IsUpper, IsLower, LiesInOne, CutsLieInUpper, CutsLieInOneLower, ShowsBareCut, ShowsLooseCut}
-use Rattle.rt_shapes.specs.Lowers.{AreLowersOf}
+use Rattle.rt_view.specs.Shapes.{IsCut, IsUpper, IsLower, LiesInOne, CutsLieInUpper, CutsLieInOneLower, ShowsBareCut, ShowsLooseCut}
+use Rattle.rt_view.specs.Lowers.{AreLowersOf}
 use Rattle.rt_shapes.specs.Cutting.{cells_by, CutsStandAlone}
 use Rattle.rt_shapes.specs.Sides.{CoversStrip, LacksUpper, StandsInOne, IsLowerAt, LacksLower, AllHaveUpper, AllHaveLower}
 use Rattle.rt_shapes.proofs.Cutting.{cut_piece, strip_around}

@@ -15,7 +15,7 @@ use Rattle.rt_cover.specs.Covering.{IsWhole, IsMissing, found_at}
 use Rattle.rt_pieces.specs.Members.{IsOf, box_of}
 use Rattle.rt_pieces.specs.Numbering.{AreNumbersOfPieces, Stands}
 use Rattle.rt_base.specs.declared.plane.Rect.{Rect}
-use Rattle.rt_shapes.specs.Shapes.{IsCut}
+use Rattle.rt_view.specs.Shapes.{IsCut}
 
 -- what each mask covers by its strips
 abbrev pub cells_by : List Placed → ℕ → ℤ → ℤ → Type 0

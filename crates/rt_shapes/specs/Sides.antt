@@ -8,10 +8,10 @@ use Rattle.rt_strips.specs.Placed.{Placed, mask_of}
 use Rattle.rt_strips.specs.Standing.{IsStrip}
 use Rattle.rt_cover.specs.Covering.{IsWhole}
 use Rattle.rt_pieces.specs.Members.{box_of}
-use Rattle.rt_nets.specs.declared.shapes.NetError.{NetError}
-use Rattle.rt_nets.specs.declared.shapes.NetError.TheVariants.{SourceShape, OutOfMemory}
-use Rattle.rt_nets.specs.declared.shapes.Shape.TheVariants.{CutLower}
-use Rattle.rt_shapes.specs.Shapes.{IsCut, IsUpper, IsLower}
+use Rattle.rt_view.specs.declared.shapes.NetError.{NetError}
+use Rattle.rt_view.specs.declared.shapes.NetError.TheVariants.{SourceShape, OutOfMemory}
+use Rattle.rt_view.specs.declared.shapes.Shape.TheVariants.{CutLower}
+use Rattle.rt_view.specs.Shapes.{IsCut, IsUpper, IsLower}
 use Rattle.rt_shapes.specs.Cutting.{cells_by, AreOfMasks, AreBareCells}
 
 -- the mask covers strip i whole

@@ -5,10 +5,10 @@ use Rattle.rt_layout.specs.declared.layout.Label.{Label}
 use Rattle.rt_tech.specs.declared.table.Tech.{Tech}
 use Rattle.rt_strips.specs.Placed.{Placed}
 use Rattle.rt_pieces.specs.Members.{box_of}
-use Rattle.rt_nets.specs.declared.shapes.NetError.{NetError}
-use Rattle.rt_nets.specs.declared.shapes.NetError.TheVariants.{SourceShape, OutOfMemory}
-use Rattle.rt_nets.specs.declared.shapes.Shape.TheVariants.{CutShape, CutUpper, StrayLabel}
-use Rattle.rt_shapes.specs.Shapes.{ShowsBentCut, ShowsStrayLabel}
+use Rattle.rt_view.specs.declared.shapes.NetError.{NetError}
+use Rattle.rt_view.specs.declared.shapes.NetError.TheVariants.{SourceShape, OutOfMemory}
+use Rattle.rt_view.specs.declared.shapes.Shape.TheVariants.{CutShape, CutUpper, StrayLabel}
+use Rattle.rt_view.specs.Shapes.{ShowsBentCut, ShowsStrayLabel}
 use Rattle.rt_shapes.specs.Cutting.{cells_by, CutsStandAlone}
 use Rattle.rt_shapes.specs.Sides.{LacksUpper, AllHaveUpper, AllHaveLower}
 

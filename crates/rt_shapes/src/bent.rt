@@ -8,10 +8,10 @@ ghost use Rattle.rt_shapes.specs.Sound.{IsBentRefusal};
 
 use crate::boxes::around;
 use crate::kinds::cut_at;
-use rt_nets::{NetError, Shape};
 use rt_pieces::stands;
 use rt_strips::{Seam, Strip, seams};
 use rt_tech::Tech;
+use rt_view::{NetError, Shape};
 use std::alloc::Global;
 
 /// That no strip of a cut stands on another: each piece of a cut is then a strip, a rectangle. `CutShape` with the least rectangle around the piece at the

@@ -1,7 +1,7 @@
 //! Which masks are cuts.
 ghost use Rattle.std.specs.Prelude.{◌≡◌, MatchBool, MatchOption};
 ghost use Rattle.rt_tech.specs.declared.table.Role.TheVariants.{Cut};
-ghost use Rattle.rt_shapes.specs.Shapes.{IsCut};
+ghost use Rattle.rt_view.specs.Shapes.{IsCut};
 ghost use Rattle.rt_shapes.specs.Cutting.{IsCutAt};
 
 use rt_tech::{Mask, Role, Tech};

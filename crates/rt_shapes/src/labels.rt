@@ -6,16 +6,16 @@ ghost use Rattle.rt_tech.specs.Tech.{mask_count};
 ghost use Rattle.rt_strips.specs.Channels.{IsStripsOf};
 ghost use Rattle.rt_strips.specs.Placed.{placed};
 ghost use Rattle.rt_strips.specs.StripsOf.{AreStrips};
-ghost use Rattle.rt_shapes.specs.Shapes.{IsWiring, LabelsTouch, Touches, square_at};
+ghost use Rattle.rt_view.specs.Shapes.{IsWiring, LabelsTouch, Touches, square_at};
 ghost use Rattle.rt_shapes.specs.Cutting.{cells_by};
 ghost use Rattle.rt_shapes.specs.Sound.{IsStrayRefusal};
 ghost use Rattle.rt_shapes.specs.Touching.{IsTouching, IsPlain, ArePlain};
 
 use rt_base::Rect;
 use rt_layout::{Label, Layout};
-use rt_nets::{NetError, Shape};
 use rt_strips::{Strip, Strips};
 use rt_tech::Tech;
+use rt_view::{NetError, Shape};
 
 /// That each label of the layout lies in a closed rectangle of its mask, or `StrayLabel` with the square whose lower left corner is the point of the first
 /// label that doesn't. Each label is tested against the strips one by one, so it is meant for the few strips of a cell that is moved. It takes no memory.

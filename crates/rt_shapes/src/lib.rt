@@ -1,5 +1,5 @@
 //! The shapes of cuts and labels that a sound source has: which lower mask each cut of a layout lies in, or the first shape that the layout hasn't, by its
-//! strips; the laws of them. No call uses them yet.
+//! strips; the laws of them.
 #![tactic(auto)]
 
 mod bare;

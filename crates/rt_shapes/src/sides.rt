@@ -7,9 +7,9 @@ ghost use Rattle.rt_shapes.specs.Sound.{IsBareRefusal};
 use crate::bare::covers;
 use crate::kinds::cut_at;
 use rt_base::{Cell, List};
-use rt_nets::{NetError, Shape};
 use rt_strips::Strip;
 use rt_tech::Tech;
+use rt_view::{NetError, Shape};
 use std::alloc::Global;
 
 /// That each strip of a cut is covered by its upper mask, or `CutUpper` with the rectangle of the first strip that isn't. It takes no memory.

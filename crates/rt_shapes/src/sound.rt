@@ -4,17 +4,17 @@ ghost use Rattle.rt_layout.specs.Covering.{MaskCovers};
 ghost use Rattle.rt_tech.specs.Tech.{mask_count};
 ghost use Rattle.rt_strips.specs.Channels.{IsStripsOf};
 ghost use Rattle.rt_strips.specs.Placed.{placed};
-ghost use Rattle.rt_shapes.specs.Shapes.{IsWiring, HasSoundShapes, IsShapeErrorOf};
-ghost use Rattle.rt_shapes.specs.Lowers.{AreLowersOf};
+ghost use Rattle.rt_view.specs.Shapes.{IsWiring, HasSoundShapes, IsShapeErrorOf};
+ghost use Rattle.rt_view.specs.Lowers.{AreLowersOf};
 ghost use Rattle.rt_shapes.specs.Touching.{ArePlain};
 
 use crate::cuts::cut_shapes;
 use crate::labels::check_labels;
 use rt_base::List;
 use rt_layout::Layout;
-use rt_nets::NetError;
 use rt_strips::Strips;
 use rt_tech::Tech;
+use rt_view::NetError;
 use std::alloc::Global;
 
 /// For each strip of a cut of the layout the number of the one lower mask that its piece lies in, and 0 for every other strip, where the layout has the

@@ -2,8 +2,7 @@
 use rt_base::Cell;
 use thiserror::Error;
 
-/// A rule of a table. A rule that no table has yet is in no list of rules, and so is never answered: of these, all but
-/// `Width` and `Space`.
+/// A rule of a table. Those of channels, `Cap`, `Ext` and `Cross`, are in no list of rules yet, and so are never answered.
 #[derive(Clone, Copy, Debug, PartialEq, Eq, Drop)]
 pub enum RuleName {
     /// The least width of a mask's shapes. The number is that of the mask, from 0.

@@ -6,11 +6,13 @@ use Rattle.rt_cells.specs.Line.{Within}
 use Rattle.rt_rows.specs.declared.row.Var.{Var}
 use Rattle.rt_rows.specs.declared.row.Row.{Row}
 use Rattle.rt_rows.specs.declared.name.Name.{Name}
-use Rattle.rt_nets.specs.declared.job.Job.{Job}
-use Rattle.rt_nets.specs.Job.{strips_of}
+use Rattle.rt_view.specs.declared.job.Job.{Job}
+use Rattle.rt_view.specs.Job.{strips_of}
 use Rattle.rt_strips.specs.Standing.{IsStrip}
+use Rattle.rt_template.specs.Between.{apart_number}
 use Rattle.rt_template.specs.Horizontal.{space_between}
-use Rattle.rt_template.specs.Vertical.{HaveSameSides, CoversColumn, columns_apart, IsSeenFrom, AreOpen, IsKeptAbove, CoversBoth, IsChain, IsWholeChain, RowUpwards, MeetsUpwards}
+use Rattle.rt_template.specs.Vertical.{HaveSameSides, CoversColumn, columns_apart, IsSeenFrom, AreOpen, IsKeptAbove, IsOffAbove, CoversBoth, IsChain, IsWholeChain, RowUpwards, MeetsUpwards}
+use Rattle.rt_template.proofs.Sides.{of_sides}
 
 within_moved : (low high low' high' x : ℤ) → low ≡ low' → high ≡ high' → Within low high x → Within low' high' x
 within_moved low high low' high' x e f w = record { from = omega (arith, ints, w.from, e); to = omega (arith, ints, w.to, f) }
@@ -64,6 +66,15 @@ module _ (job : Job) (columns other : Var → ℤ) (same : HaveSameSides job col
         open_to = open_to i j s t h.open_to;
       }
 
+  off_above : (q i j : ℕ) → IsOffAbove job columns q i j → IsOffAbove job other q i j
+  off_above q i j k =
+      let s = of_sides job q i j k.sides in
+      record {
+        sides = k.sides;
+        above = k.above;
+        near = subst (λ (n : ℤ). n <ℤ apart_number job.target q) (apart i j (record { below_count = s.0 }) (record { below_count = s.1 })) k.near;
+      }
+
   whole_chain : (i j : ℕ) → IsWholeChain job columns i j → IsWholeChain job other i j
   whole_chain i j h = record {
     x = h.x;
@@ -82,10 +93,14 @@ module _ (job : Job) (columns other : Var → ℤ) (same : HaveSameSides job col
   row_moved name row RowUpwards.zero = RowUpwards.zero
   row_moved name row RowUpwards.top = RowUpwards.top
   row_moved name row (RowUpwards.tall i s) = RowUpwards.tall i s
+  row_moved name row (RowUpwards.size i c) = RowUpwards.size i c
   row_moved name row (RowUpwards.on i j s) = RowUpwards.on i j s
   row_moved name row (RowUpwards.under i j s) = RowUpwards.under i j s
   row_moved name row (RowUpwards.gap i j k) = RowUpwards.gap i j (kept_above i j k)
   row_moved name row (RowUpwards.run i j c) = RowUpwards.run i j (whole_chain i j c)
+  row_moved name row (RowUpwards.off q i j k) = RowUpwards.off q i j (off_above q i j k)
+  row_moved name row (RowUpwards.inb q i h k) = RowUpwards.inb q i h k
+  row_moved name row (RowUpwards.int q i h k) = RowUpwards.int q i h k
 
   -- and positions that meet the other meet the one
   pub meets_moved : (at : Var → ℤ) → MeetsUpwards job other at → MeetsUpwards job columns at

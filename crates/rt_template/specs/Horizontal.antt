@@ -1,6 +1,6 @@
 -- The template across: the rows that positions have to meet there, each with its name and the condition under which it is there.
 -- Conditions speak of the source; what a row asks for is in target steps.
-use Rattle.std.specs.Prelude.{ℕ, ◌<◌, ℤ, pos, ◌-ℤ◌, ◌≤ℤ◌, ◌<ℤ◌, ◌⊎◌, ◌≡◌}
+use Rattle.std.specs.Prelude.{ℕ, ◌<◌, ℤ, pos, neg_ℤ, ◌-ℤ◌, ◌≤ℤ◌, ◌<ℤ◌, ◌⊎◌, ◌≡◌}
 use Rattle.std.specs.Int.{int_min}
 use Rattle.rt_tech.specs.Tech.{width_of, space_of}
 use Rattle.rt_rows.specs.declared.positions.TheConstants.{EXTENT_LIMIT}
@@ -8,12 +8,13 @@ use Rattle.rt_rows.specs.declared.row.Var.{Var}
 use Rattle.rt_rows.specs.declared.row.Var.TheVariants.{L, R, Width}
 use Rattle.rt_rows.specs.declared.row.Row.{Row}
 use Rattle.rt_rows.specs.declared.name.Name.{Name}
-use Rattle.rt_rows.specs.declared.name.Name.TheVariants.{Lo, Hi, Zero, Top, Wide, Ll, Rr, Share, Gap}
+use Rattle.rt_rows.specs.declared.name.Name.TheVariants.{Lo, Hi, Zero, Top, Wide, Size, Ll, Rr, Share, Gap, Off, Inl, Inr}
 use Rattle.rt_rows.specs.Rows.{MeetsRow, at_least, at_most, beyond}
-use Rattle.rt_nets.specs.declared.job.Job.{Job}
-use Rattle.rt_nets.specs.Job.{strips_of}
+use Rattle.rt_view.specs.declared.job.Job.{Job}
+use Rattle.rt_view.specs.Job.{strips_of}
 use Rattle.rt_strips.specs.Placed.{mask_of, left_of, right_of}
 use Rattle.rt_strips.specs.Standing.{IsStrip, AreOfOneMask, ShareRow, rows_apart, Touch, IsClimbed}
+use Rattle.rt_template.specs.Between.{enclose_number, apart_number, IsCutStrip, IsHostUnder, IsOffRight}
 
 -- how wide a strip has to be: its mask's width in the target
 abbrev pub width_across : Job → ℕ → ℤ
@@ -57,6 +58,7 @@ module _ (job : Job) where
     zero : RowAcross Zero (at_least Width (pos 0))
     top : RowAcross Top (at_most Width EXTENT_LIMIT)
     wide : (i : ℕ) → IsStrip (strips_of job) i → RowAcross (Wide i) (beyond (L i) (R i) (width_across job i))
+    size : (i : ℕ) → IsCutStrip job i → RowAcross (Size i) (beyond (R i) (L i) (neg_ℤ (width_across job i)))
     ll : (i j : ℕ) → Touch (strips_of job) i j → left_of (strips_of job) i ≤ℤ left_of (strips_of job) j
         → RowAcross (Ll i j) (beyond (L i) (L j) (kept_behind (left_of (strips_of job) i) (left_of (strips_of job) j)))
     rr : (i j : ℕ) → Touch (strips_of job) i j → right_of (strips_of job) i ≤ℤ right_of (strips_of job) j
@@ -64,6 +66,9 @@ module _ (job : Job) where
     share : (i j : ℕ) → Touch (strips_of job) i j → left_of (strips_of job) i ≤ℤ left_of (strips_of job) j
         → right_of (strips_of job) i ≤ℤ right_of (strips_of job) j → RowAcross (Share i j) (beyond (L j) (R i) (width_across job i))
     gap : (i j : ℕ) → IsKeptRightOf i j → RowAcross (Gap i j) (beyond (R i) (L j) (space_between job i j))
+    off : (q i j : ℕ) → IsOffRight job q i j → RowAcross (Off q i j) (beyond (R i) (L j) (apart_number job.target q))
+    inl : (q i h : ℕ) → IsHostUnder job q i h → RowAcross (Inl q i h) (beyond (L h) (L i) (enclose_number job.target q))
+    inr : (q i h : ℕ) → IsHostUnder job q i h → RowAcross (Inr q i h) (beyond (R i) (R h) (enclose_number job.target q))
 
   -- the template has a row of that name
   abbrev pub HasAcross : Name → Type 0

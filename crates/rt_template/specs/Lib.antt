@@ -1,3 +1,4 @@
+pub mod Between
 pub mod Horizontal
 pub mod Vertical
 pub mod Drawing

@@ -1,6 +1,6 @@
 -- The template upwards, at the columns that were found across: the rows that positions have to meet there, each with its name and the
 -- condition under which it is there.
-use Rattle.std.specs.Prelude.{◌≡◌, ℕ, ◌<◌, ◌≤◌, ℤ, pos, ◌+ℤ◌, ◌≤ℤ◌, ◌<ℤ◌, ◌⊎◌, length}
+use Rattle.std.specs.Prelude.{◌≡◌, ℕ, ◌<◌, ◌≤◌, ℤ, pos, neg_ℤ, ◌+ℤ◌, ◌≤ℤ◌, ◌<ℤ◌, ◌⊎◌, length}
 use Rattle.rt_cells.specs.Line.{gap_of, Within}
 use Rattle.rt_tech.specs.Tech.{width_of}
 use Rattle.rt_rows.specs.declared.positions.TheConstants.{EXTENT_LIMIT}
@@ -9,16 +9,17 @@ use Rattle.rt_rows.specs.declared.row.Var.{Var}
 use Rattle.rt_rows.specs.declared.row.Var.TheVariants.{L, R, B, T, Height}
 use Rattle.rt_rows.specs.declared.row.Row.{Row}
 use Rattle.rt_rows.specs.declared.name.Name.{Name}
-use Rattle.rt_rows.specs.declared.name.Name.TheVariants.{Lo, Hi, Zero, Top, Tall, On, Under, Gap, Run}
+use Rattle.rt_rows.specs.declared.name.Name.TheVariants.{Lo, Hi, Zero, Top, Tall, Size, On, Under, Gap, Run, Off, Inb, Int}
 use Rattle.rt_rows.specs.Places.{places}
 use Rattle.rt_rows.specs.Rows.{MeetsRow, at_least, at_most, beyond}
-use Rattle.rt_nets.specs.declared.job.Job.{Job}
-use Rattle.rt_nets.specs.Job.{strips_of}
+use Rattle.rt_view.specs.declared.job.Job.{Job}
+use Rattle.rt_view.specs.Job.{strips_of}
 use Rattle.rt_strips.specs.Placed.{mask_of, bottom_of, top_of}
 use Rattle.rt_strips.specs.Standing.{IsStrip, AreOfOneMask, StandsOn, Touch, IsClimbed}
+use Rattle.rt_template.specs.Between.{enclose_number, apart_number, IsCutStrip, least_height, IsLowestHost, IsHighestHost, AreOnTwoSides}
 use Rattle.rt_template.specs.Horizontal.{space_between, AreOfOneDrawnMask}
 
--- how high a chain of strips has to be: its mask's width in the target
+-- how high a chain of strips has to be: its mask's width in the target, which of a cut is its size
 abbrev pub width_upwards : Job → ℕ → ℤ
 width_upwards job i = width_of job.target (mask_of (strips_of job) i)
 
@@ -89,17 +90,27 @@ module _ (job : Job) (columns : Var → ℤ) where
     pub lowest : (k : ℕ) → CoversBoth x u k → ¬ StandsOn (strips_of job) k i
     pub highest : (k : ℕ) → CoversBoth x u k → ¬ StandsOn (strips_of job) j k
 
+  -- strip j lies above strip i on the other side of distance q, and fewer columns than the target's number lie between them in the drawing
+  pub record IsOffAbove (q i j : ℕ) : Type 0 where
+    pub sides : AreOnTwoSides job q i j
+    pub above : top_of (strips_of job) i ≤ℤ bottom_of (strips_of job) j
+    pub near : columns_apart i j <ℤ apart_number job.target q
+
   -- the template has a row of that name, and which
   pub data RowUpwards : Name → Row → Type 0 where
     lo : (i : ℕ) → IsStrip (strips_of job) i → RowUpwards (Lo i) (at_least (B i) (pos 0))
     hi : (i : ℕ) → IsStrip (strips_of job) i → RowUpwards (Hi i) (beyond (T i) Height (pos 0))
     zero : RowUpwards Zero (at_least Height (pos 0))
     top : RowUpwards Top (at_most Height EXTENT_LIMIT)
-    tall : (i : ℕ) → IsStrip (strips_of job) i → RowUpwards (Tall i) (beyond (B i) (T i) (pos 1))
+    tall : (i : ℕ) → IsStrip (strips_of job) i → RowUpwards (Tall i) (beyond (B i) (T i) (least_height job i))
+    size : (i : ℕ) → IsCutStrip job i → RowUpwards (Size i) (beyond (T i) (B i) (neg_ℤ (width_upwards job i)))
     on : (i j : ℕ) → StandsOn (strips_of job) i j → RowUpwards (On i j) (beyond (T i) (B j) (pos 0))
     under : (i j : ℕ) → StandsOn (strips_of job) i j → RowUpwards (Under i j) (beyond (B j) (T i) (pos 0))
     gap : (i j : ℕ) → IsKeptAbove i j → RowUpwards (Gap i j) (beyond (T i) (B j) (space_between job i j))
     run : (i j : ℕ) → IsWholeChain i j → RowUpwards (Run i j) (beyond (B i) (T j) (width_upwards job i))
+    off : (q i j : ℕ) → IsOffAbove q i j → RowUpwards (Off q i j) (beyond (T i) (B j) (apart_number job.target q))
+    inb : (q i h : ℕ) → IsLowestHost job q i h → RowUpwards (Inb q i h) (beyond (B h) (B i) (enclose_number job.target q))
+    int : (q i h : ℕ) → IsHighestHost job q i h → RowUpwards (Int q i h) (beyond (T i) (T h) (enclose_number job.target q))
 
   -- the template has a row of that name
   abbrev pub HasUpwards : Name → Type 0

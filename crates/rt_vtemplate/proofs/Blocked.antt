@@ -1,5 +1,5 @@
 -- Which columns of two strips are hidden by strips that lie between them.
-use Rattle.std.proofs.Common.{◌≡◌, ◌≢◌, ℕ, ◌<◌, ◌≤◌, ◌⊎◌, inl, inr, ℤ, pos, negsuc, ◌≤ℤ◌, ◌<ℤ◌, Bool, true, false, List, length, map, get_or, sym, ap, subst, ◌∙◌, arith}
+use Rattle.std.proofs.Common.{◌≡◌, ◌≢◌, ℕ, ◌<◌, ◌≤◌, ◌⊎◌, inl, inr, ℤ, pos, negsuc, ◌≤ℤ◌, ◌<ℤ◌, Bool, true, false, length, sym, ap, ◌∙◌, arith}
 use Rattle.std.proofs.lemmas.Int.{ints, clamps}
 use Rattle.std.proofs.lemmas.Bool.{cases_lt}
 use Rattle.std.specs.Bool.{MatchBool}
@@ -7,12 +7,12 @@ use Rattle.std.specs.Int.{int_max, int_min}
 use Rattle.rt_rows.specs.declared.row.Var.{Var}
 use Rattle.rt_rows.specs.declared.row.Var.TheVariants.{L, R}
 use Rattle.rt_strips.specs.declared.listing.Strip.{Strip}
-use Rattle.rt_strips.specs.Placed.{Placed, placed, strip_at, mask_of, left_of, bottom_of, top_of}
+use Rattle.rt_strips.specs.Placed.{placed, mask_of, left_of, bottom_of, top_of}
 use Rattle.rt_strips.specs.Standing.{AreOfOneMask}
 use Rattle.rt_strips.specs.StripsOf.{AreStrips}
-use Rattle.rt_strips.proofs.Placed.{strip_there, strip_is}
-use Rattle.rt_nets.specs.declared.job.Job.{Job}
-use Rattle.rt_nets.specs.Job.{strips_of}
+use Rattle.rt_strips.proofs.Placed.{strip_there}
+use Rattle.rt_view.specs.declared.job.Job.{Job}
+use Rattle.rt_view.specs.Job.{strips_of}
 use Rattle.rt_template.specs.Vertical.{CoversColumn, LiesBetween, IsSeenFrom}
 use Rattle.rt_vtemplate.specs.Open.{LiesInRows, AreInRows, HasNoneBetween, AreHiddenBefore}
 

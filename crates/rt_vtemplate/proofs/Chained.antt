@@ -5,8 +5,8 @@ use Rattle.rt_rows.specs.declared.row.Var.{Var}
 use Rattle.rt_strips.specs.StripsOf.{AreStrips}
 use Rattle.rt_strips.proofs.Placed.{strip_below}
 use Rattle.rt_strips.proofs.Chains.{stands_later}
-use Rattle.rt_nets.specs.declared.job.Job.{Job}
-use Rattle.rt_nets.specs.Job.{strips_of}
+use Rattle.rt_view.specs.declared.job.Job.{Job}
+use Rattle.rt_view.specs.Job.{strips_of}
 use Rattle.rt_template.specs.Vertical.{CoversBoth, IsChain}
 use Rattle.rt_vtemplate.specs.Whole.{StandsThere, IsLowest, IsHighest}
 

@@ -11,8 +11,8 @@ use Rattle.rt_strips.specs.declared.listing.Strip.{Strip}
 use Rattle.rt_strips.specs.Placed.{placed, bottom_of, top_of}
 use Rattle.rt_strips.specs.Standing.{StandsOn, Touch, IsClimbed}
 use Rattle.rt_strips.specs.Table.{tells}
-use Rattle.rt_nets.specs.declared.job.Job.{Job}
-use Rattle.rt_nets.specs.Job.{strips_of, IsJob}
+use Rattle.rt_view.specs.declared.job.Job.{Job}
+use Rattle.rt_view.specs.Job.{strips_of, IsJob}
 use Rattle.rt_template.specs.Horizontal.{space_between, AreOfOneDrawnMask}
 use Rattle.rt_template.specs.Vertical.{IsSeenFrom, IsKeptAbove}
 use Rattle.rt_vtemplate.specs.Steps.{columns_of}

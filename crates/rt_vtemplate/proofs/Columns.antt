@@ -12,8 +12,8 @@ use Rattle.rt_tech.specs.declared.table.Mask.{Mask}
 use Rattle.rt_tech.specs.declared.table.Tech.{Tech}
 use Rattle.rt_tech.specs.Tech.{mask_count, space_of, space_of_mask}
 use Rattle.rt_strips.specs.Placed.{mask_of}
-use Rattle.rt_nets.specs.declared.job.Job.{Job}
-use Rattle.rt_nets.specs.Job.{strips_of, IsJob}
+use Rattle.rt_view.specs.declared.job.Job.{Job}
+use Rattle.rt_view.specs.Job.{strips_of, IsJob}
 use Rattle.rt_template.specs.Vertical.{columns_apart}
 use Rattle.rt_strips.proofs.Placed.{strip_there, strip_below}
 use Rattle.rt_vtemplate.specs.Kinds.{AreNearStrips}

@@ -10,3 +10,4 @@ pub mod Chained
 pub mod Wholes
 pub mod Closeness
 pub mod Told
+pub mod Distances

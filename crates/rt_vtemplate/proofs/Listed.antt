@@ -12,7 +12,7 @@ use Rattle.rt_rows.specs.declared.row.Var.TheVariants.{Height}
 use Rattle.rt_rows.specs.declared.row.Row.{Row}
 use Rattle.rt_rows.specs.Rows.{at_least}
 use Rattle.rt_rows.specs.Order.{ComesBefore, ListsNames}
-use Rattle.rt_nets.specs.declared.job.Job.{Job}
+use Rattle.rt_view.specs.declared.job.Job.{Job}
 use Rattle.rt_template.specs.Vertical.{RowUpwards, HasUpwards}
 use Rattle.rt_vtemplate.specs.Listing.{ListsRows, row_of, with_row, IsKnown, HasNoRow, IsRowOf}
 
@@ -23,10 +23,14 @@ its_row job columns name row (RowUpwards.hi i s) = refl
 its_row job columns name row RowUpwards.zero = refl
 its_row job columns name row RowUpwards.top = refl
 its_row job columns name row (RowUpwards.tall i s) = refl
+its_row job columns name row (RowUpwards.size i c) = refl
 its_row job columns name row (RowUpwards.on i j s) = refl
 its_row job columns name row (RowUpwards.under i j s) = refl
 its_row job columns name row (RowUpwards.gap i j k) = refl
 its_row job columns name row (RowUpwards.run i j c) = refl
+its_row job columns name row (RowUpwards.off q i j k) = refl
+its_row job columns name row (RowUpwards.inb q i h k) = refl
+its_row job columns name row (RowUpwards.int q i h k) = refl
 
 pub not_none : {X : Type 0} (x : X) → None ≡ Some x → ⊥
 not_none x e = cc

@@ -12,8 +12,8 @@ use Rattle.rt_rows.specs.declared.row.Var.TheVariants.{L, R}
 use Rattle.rt_tech.specs.Tech.{space_of}
 use Rattle.rt_strips.specs.Placed.{Placed, bottom_of, top_of}
 use Rattle.rt_strips.specs.StripsOf.{AreStrips}
-use Rattle.rt_nets.specs.declared.job.Job.{Job}
-use Rattle.rt_nets.specs.Job.{strips_of}
+use Rattle.rt_view.specs.declared.job.Job.{Job}
+use Rattle.rt_view.specs.Job.{strips_of}
 use Rattle.rt_template.specs.Horizontal.{space_between}
 use Rattle.rt_template.specs.Vertical.{columns_apart}
 use Rattle.rt_vtemplate.specs.Added.{AreAdded, IsOfFirst}

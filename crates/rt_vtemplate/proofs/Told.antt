@@ -4,13 +4,14 @@ use Rattle.std.specs.Bool.{MatchBool}
 use Rattle.std.specs.Option.{MatchOption}
 use Rattle.std.proofs.lemmas.Option.{same_Some}
 use Rattle.rt_rows.specs.declared.name.Name.{Name}
-use Rattle.rt_rows.specs.declared.name.Name.TheVariants.{Lo, Hi, Zero, Top, Tall, On, Under, Gap, Run}
+use Rattle.rt_rows.specs.declared.name.Name.TheVariants.{Lo, Hi, Zero, Top, Tall, Size, On, Under, Gap, Run, Off, Inb, Int}
 use Rattle.rt_rows.specs.declared.row.Var.{Var}
 use Rattle.rt_rows.specs.declared.row.Row.{Row}
 use Rattle.rt_strips.specs.Standing.{IsStrip, StandsOn}
-use Rattle.rt_nets.specs.declared.job.Job.{Job}
-use Rattle.rt_nets.specs.Job.{strips_of}
-use Rattle.rt_template.specs.Vertical.{RowUpwards, HasUpwards, IsKeptAbove, IsWholeChain}
+use Rattle.rt_view.specs.declared.job.Job.{Job}
+use Rattle.rt_view.specs.Job.{strips_of}
+use Rattle.rt_template.specs.Between.{IsCutStrip, IsLowestHost, IsHighestHost}
+use Rattle.rt_template.specs.Vertical.{RowUpwards, HasUpwards, IsKeptAbove, IsOffAbove, IsWholeChain}
 use Rattle.rt_vtemplate.specs.Listing.{row_of}
 use Rattle.rt_vtemplate.specs.Open.{AreBothStrips}
 use Rattle.rt_vtemplate.proofs.Listed.{its_row, not_none}
@@ -41,6 +42,18 @@ module _ (job : Job) (columns : Var → ℤ) where
 
   run_is : (i j : ℕ) (row : Row) → RowUpwards job columns (Run i j) row → IsWholeChain job columns i j
   run_is i j row (RowUpwards.run _ _ c) = c
+
+  size_is : (i : ℕ) (row : Row) → RowUpwards job columns (Size i) row → IsCutStrip job i
+  size_is i row (RowUpwards.size _ c) = c
+
+  off_is : (q i j : ℕ) (row : Row) → RowUpwards job columns (Off q i j) row → IsOffAbove job columns q i j
+  off_is q i j row (RowUpwards.off _ _ _ k) = k
+
+  inb_is : (q i h : ℕ) (row : Row) → RowUpwards job columns (Inb q i h) row → IsLowestHost job q i h
+  inb_is q i h row (RowUpwards.inb _ _ _ k) = k
+
+  int_is : (q i h : ℕ) (row : Row) → RowUpwards job columns (Int q i h) row → IsHighestHost job q i h
+  int_is q i h row (RowUpwards.int _ _ _ k) = k
 
   at_name : (name other : Name) (v : Bool) → name ≡ other → MatchBool v (HasUpwards job columns other) (¬ HasUpwards job columns other)
       → MatchBool v (HasUpwards job columns name) (¬ HasUpwards job columns name)
@@ -88,6 +101,26 @@ module _ (job : Job) (columns : Var → ℤ) where
   run_told name i j v e m =
       at_name name (Run i j) v e
       (decided v (IsWholeChain job columns i j) (HasUpwards job columns (Run i j)) (λ c. (_, RowUpwards.run i j c)) (λ h. run_is i j h.0 h.1) m)
+
+  pub size_told : (name : Name) (i : ℕ) (v : Bool) → name ≡ Size i → MatchBool v (IsCutStrip job i) (¬ IsCutStrip job i)
+      → MatchBool v (HasUpwards job columns name) (¬ HasUpwards job columns name)
+  size_told name i v e m =
+      at_name name (Size i) v e (decided v (IsCutStrip job i) (HasUpwards job columns (Size i)) (λ c. (_, RowUpwards.size i c)) (λ h. size_is i h.0 h.1) m)
+
+  pub off_told : (name : Name) (q i j : ℕ) (v : Bool) → name ≡ Off q i j → MatchBool v (IsOffAbove job columns q i j) (¬ IsOffAbove job columns q i j)
+      → MatchBool v (HasUpwards job columns name) (¬ HasUpwards job columns name)
+  off_told name q i j v e m =
+      at_name name (Off q i j) v e (decided v (IsOffAbove job columns q i j) (HasUpwards job columns (Off q i j)) (λ k. (_, RowUpwards.off q i j k)) (λ h. off_is q i j h.0 h.1) m)
+
+  pub inb_told : (name : Name) (q i h : ℕ) (v : Bool) → name ≡ Inb q i h → MatchBool v (IsLowestHost job q i h) (¬ IsLowestHost job q i h)
+      → MatchBool v (HasUpwards job columns name) (¬ HasUpwards job columns name)
+  inb_told name q i h v e m =
+      at_name name (Inb q i h) v e (decided v (IsLowestHost job q i h) (HasUpwards job columns (Inb q i h)) (λ k. (_, RowUpwards.inb q i h k)) (λ has. inb_is q i h has.0 has.1) m)
+
+  pub int_told : (name : Name) (q i h : ℕ) (v : Bool) → name ≡ Int q i h → MatchBool v (IsHighestHost job q i h) (¬ IsHighestHost job q i h)
+      → MatchBool v (HasUpwards job columns name) (¬ HasUpwards job columns name)
+  int_told name q i h v e m =
+      at_name name (Int q i h) v e (decided v (IsHighestHost job q i h) (HasUpwards job columns (Int q i h)) (λ k. (_, RowUpwards.int q i h k)) (λ has. int_is q i h has.0 has.1) m)
 
   -- a name of another kind has no row
   pub none_told : (name : Name) → row_of job name ≡ None → ¬ HasUpwards job columns name

@@ -3,6 +3,7 @@ use Rattle.std.proofs.Common.{◌≡◌, ℕ, suc, ◌⊎◌, inl, inr, ℤ, ◌
 use Rattle.std.proofs.lemmas.Int.{ints}
 use Rattle.std.proofs.lemmas.List.Elements.{All-weaker, All-contains_itself}
 use Rattle.rt_rows.specs.declared.name.Name.{Name}
+use Rattle.rt_rows.specs.declared.name.Name.TheVariants.{Off, Inb, Int}
 use Rattle.rt_rows.specs.declared.row.Var.{Var}
 use Rattle.rt_rows.specs.declared.row.Row.{Row}
 use Rattle.rt_rows.specs.Order.{ListsNames, ArePutInOrder}
@@ -13,13 +14,14 @@ use Rattle.rt_strips.specs.StripsOf.{AreStrips}
 use Rattle.rt_strips.specs.Channels.{IsStripCell}
 use Rattle.rt_strips.proofs.Family.{are_strips}
 use Rattle.rt_strips.proofs.Placed.{strip_there, strip_below}
-use Rattle.rt_nets.specs.declared.job.Job.{Job}
-use Rattle.rt_nets.specs.Job.{strips_of, IsJob}
+use Rattle.rt_view.specs.declared.job.Job.{Job}
+use Rattle.rt_view.specs.Job.{strips_of, IsJob}
 use Rattle.rt_template.specs.Vertical.{RowUpwards, HasUpwards, IsKeptAbove}
 use Rattle.rt_columns.specs.Shown.{IsShown, ListsShown}
 use Rattle.rt_vtemplate.specs.Added.{AreAdded, HoldsExactly, IsOfFirst}
 use Rattle.rt_vtemplate.specs.Kinds.{IsOfWhole, IsOfStrip, IsOfStanding, IsClearAbove, AreNearStrips, IsOfNear, IsOfTwo}
 use Rattle.rt_vtemplate.specs.Steps.{IsOfSource}
+use Rattle.rt_vtemplate.specs.Between.{IsOfDistance, IsOfEnclosure, IsBetween, AreBetweenAdded}
 use Rattle.rt_vtemplate.proofs.Added.{added_then}
 
 -- the strips of a job are the strips of what they cover
@@ -86,44 +88,52 @@ module _ (job : Job) (columns : Var → ℤ) (are : AreStrips (strips_of job)) w
   has_near i j name (IsOfNear.gap n c) = (_, RowUpwards.gap i j (kept i j n c))
 
   -- of which kind a name is that the template has
-  of_some_kind : (name : Name) (row : Row) → RowUpwards job columns name row → (IsShown job columns name ⊎ IsOfSource job name) ⊎ IsOfTwo (IsOfNear job columns) name
+  of_some_kind : (name : Name) (row : Row) → RowUpwards job columns name row
+      → ((IsShown job columns name ⊎ IsOfSource job name) ⊎ IsOfTwo (IsOfNear job columns) name) ⊎ IsBetween job columns name
   of_some_kind name row (RowUpwards.lo i s) =
-      inl (inr (IsOfSource.strip (record { number = i; below = strip_below job.view.strips.list i s; of_kind = IsOfStrip.lo })))
+      inl (inl (inr (IsOfSource.strip (record { number = i; below = strip_below job.view.strips.list i s; of_kind = IsOfStrip.lo }))))
   of_some_kind name row (RowUpwards.hi i s) =
-      inl (inr (IsOfSource.strip (record { number = i; below = strip_below job.view.strips.list i s; of_kind = IsOfStrip.hi })))
-  of_some_kind name row RowUpwards.zero = inl (inr (IsOfSource.whole IsOfWhole.zero))
-  of_some_kind name row RowUpwards.top = inl (inr (IsOfSource.whole IsOfWhole.top))
+      inl (inl (inr (IsOfSource.strip (record { number = i; below = strip_below job.view.strips.list i s; of_kind = IsOfStrip.hi }))))
+  of_some_kind name row RowUpwards.zero = inl (inl (inr (IsOfSource.whole IsOfWhole.zero)))
+  of_some_kind name row RowUpwards.top = inl (inl (inr (IsOfSource.whole IsOfWhole.top)))
   of_some_kind name row (RowUpwards.tall i s) =
-      inl (inr (IsOfSource.strip (record { number = i; below = strip_below job.view.strips.list i s; of_kind = IsOfStrip.tall })))
-  of_some_kind name row (RowUpwards.on i j s) = inl (inr (IsOfSource.standing (record { first = i; second = j; of_kind = IsOfStanding.on s })))
-  of_some_kind name row (RowUpwards.under i j s) = inl (inr (IsOfSource.standing (record { first = i; second = j; of_kind = IsOfStanding.under s })))
+      inl (inl (inr (IsOfSource.strip (record { number = i; below = strip_below job.view.strips.list i s; of_kind = IsOfStrip.tall }))))
+  of_some_kind name row (RowUpwards.on i j s) = inl (inl (inr (IsOfSource.standing (record { first = i; second = j; of_kind = IsOfStanding.on s }))))
+  of_some_kind name row (RowUpwards.under i j s) = inl (inl (inr (IsOfSource.standing (record { first = i; second = j; of_kind = IsOfStanding.under s }))))
   of_some_kind name row (RowUpwards.gap i j k) =
       elim k.open_to [
-        | inl none ↦ inr (record {
+        | inl none ↦ inl (inr (record {
           first = i;
           second = j;
           of_kind = IsOfNear.gap (record { of_one_mask = k.of_one_mask; near = k.near }) (record { above = k.above; unclimbed = none });
-        })
-        | inr seen ↦ inl (inl (IsShown.seen i j k seen))
+        }))
+        | inr seen ↦ inl (inl (inl (IsShown.seen i j k seen)))
       ]
-  of_some_kind name row (RowUpwards.run i j c) = inl (inl (IsShown.chained i j c))
+  of_some_kind name row (RowUpwards.run i j c) = inl (inl (inl (IsShown.chained i j c)))
+  of_some_kind name row (RowUpwards.size i c) = inr (IsBetween.size i c)
+  of_some_kind name row (RowUpwards.off q i j k) = inr (IsBetween.distance q (Off q i j) (IsOfDistance.off i j k))
+  of_some_kind name row (RowUpwards.inb q i h k) = inr (IsBetween.enclosure q (Inb q i h) (IsOfEnclosure.bottom i h k))
+  of_some_kind name row (RowUpwards.int q i h k) = inr (IsBetween.enclosure q (Int q i h) (IsOfEnclosure.top i h k))
 
-  -- the names that the columns show, those of the source and those of near strips are all that the template has
-  pub upwards_hold : (a b c : List Name) → ListsShown job columns a → AreAdded (IsOfSource job) a b → AreAdded (IsOfTwo (IsOfNear job columns)) b c
-      → HoldsExactly (HasUpwards job columns) c
-  upwards_hold a b c shown f g = record {
-    exact = λ name. (
-      λ h. elim ((g.exact name).0 h) [
-        | inl d ↦ elim ((f.exact name).0 d) [ inl e ↦ has_shown name ((shown.exact name).0 e) | inr k ↦ has_source name k ]
-        | inr k ↦ has_near k.first k.second name k.of_kind
-      ],
-      λ (h : HasUpwards job columns name). elim (of_some_kind name h.0 h.1) [
-        | inl (inl k) ↦ (g.exact name).1 (inl ((f.exact name).1 (inl ((shown.exact name).1 k))))
-        | inl (inr k) ↦ (g.exact name).1 (inl ((f.exact name).1 (inr k)))
-        | inr k ↦ (g.exact name).1 (inr k)
-      ],
-    );
-  }
+  -- the names that the columns show, those of the source, those of near strips and those between masks are all that the template has
+  pub upwards_hold : (a b c d : List Name) → ListsShown job columns a → AreAdded (IsOfSource job) a b → AreAdded (IsOfTwo (IsOfNear job columns)) b c
+      → AreBetweenAdded job columns c d → HoldsExactly (HasUpwards job columns) d
+  upwards_hold a b c d shown f g between = record { exact = λ name. (there name, λ (h : HasUpwards job columns name). held name (of_some_kind name h.0 h.1)) }
+    where
+      there : (name : Name) → Contains d name → HasUpwards job columns name
+      there name h = elim (between.each name h) [
+        | inl i ↦ elim ((g.exact name).0 i) [
+          | inl k ↦ elim ((f.exact name).0 k) [ inl e ↦ has_shown name ((shown.exact name).0 e) | inr m ↦ has_source name m ]
+          | inr k ↦ has_near k.first k.second name k.of_kind
+        ]
+        | inr has ↦ has
+      ]
+
+      held : (name : Name) → ((IsShown job columns name ⊎ IsOfSource job name) ⊎ IsOfTwo (IsOfNear job columns) name) ⊎ IsBetween job columns name → Contains d name
+      held name (inl (inl (inl k))) = between.kept name ((g.exact name).1 (inl ((f.exact name).1 (inl ((shown.exact name).1 k)))))
+      held name (inl (inl (inr k))) = between.kept name ((g.exact name).1 (inl ((f.exact name).1 (inr k))))
+      held name (inl (inr k)) = between.kept name ((g.exact name).1 (inr k))
+      held name (inr k) = between.every name k
 
 -- the names of a template, put in order, are its listing
 pub listed : (in_template : Name → Type 0) (names sorted : List Name) → HoldsExactly in_template names → ArePutInOrder names sorted → ListsNames in_template sorted

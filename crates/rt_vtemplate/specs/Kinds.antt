@@ -5,8 +5,8 @@ use Rattle.rt_rows.specs.declared.name.Name.TheVariants.{Lo, Hi, Zero, Top, Tall
 use Rattle.rt_rows.specs.declared.row.Var.{Var}
 use Rattle.rt_strips.specs.Placed.{Placed, bottom_of, top_of}
 use Rattle.rt_strips.specs.Standing.{StandsOn, IsClimbed}
-use Rattle.rt_nets.specs.declared.job.Job.{Job}
-use Rattle.rt_nets.specs.Job.{strips_of}
+use Rattle.rt_view.specs.declared.job.Job.{Job}
+use Rattle.rt_view.specs.Job.{strips_of}
 use Rattle.rt_template.specs.Horizontal.{space_between, AreOfOneDrawnMask}
 use Rattle.rt_template.specs.Vertical.{columns_apart}
 

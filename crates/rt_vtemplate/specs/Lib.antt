@@ -4,3 +4,5 @@ pub mod Steps
 pub mod Listing
 pub mod Open
 pub mod Whole
+pub mod Between
+pub mod Apart

@@ -1,14 +1,15 @@
 -- The rows of a template, listed with their names.
-use Rattle.std.specs.Prelude.{ℤ, pos, List, All, AllPairs, Contains, Option, Some, None, unwrap_or, ◌≡◌}
+use Rattle.std.specs.Prelude.{ℤ, pos, neg_ℤ, List, All, AllPairs, Contains, Option, Some, None, unwrap_or, ◌≡◌}
 use Rattle.rt_rows.specs.declared.positions.TheConstants.{EXTENT_LIMIT}
 use Rattle.rt_rows.specs.declared.row.Var.{Var}
 use Rattle.rt_rows.specs.declared.row.Var.TheVariants.{B, T, Height}
 use Rattle.rt_rows.specs.declared.row.Row.{Row}
 use Rattle.rt_rows.specs.declared.name.Name.{Name}
-use Rattle.rt_rows.specs.declared.name.Name.TheVariants.{Lo, Hi, Zero, Top, Tall, On, Under, Gap, Run}
+use Rattle.rt_rows.specs.declared.name.Name.TheVariants.{Lo, Hi, Zero, Top, Tall, Size, On, Under, Gap, Run, Off, Inb, Int}
 use Rattle.rt_rows.specs.Order.{ComesBefore}
 use Rattle.rt_rows.specs.Rows.{at_least, at_most, beyond}
-use Rattle.rt_nets.specs.declared.job.Job.{Job}
+use Rattle.rt_view.specs.declared.job.Job.{Job}
+use Rattle.rt_template.specs.Between.{enclose_number, apart_number, least_height}
 use Rattle.rt_template.specs.Horizontal.{space_between}
 use Rattle.rt_template.specs.Vertical.{width_upwards, RowUpwards, HasUpwards}
 
@@ -25,11 +26,15 @@ row_of job (Lo i) = Some (at_least (B i) (pos 0))
 row_of job (Hi i) = Some (beyond (T i) Height (pos 0))
 row_of job Zero = Some (at_least Height (pos 0))
 row_of job Top = Some (at_most Height EXTENT_LIMIT)
-row_of job (Tall i) = Some (beyond (B i) (T i) (pos 1))
+row_of job (Tall i) = Some (beyond (B i) (T i) (least_height job i))
+row_of job (Size i) = Some (beyond (T i) (B i) (neg_ℤ (width_upwards job i)))
 row_of job (On i j) = Some (beyond (T i) (B j) (pos 0))
 row_of job (Under i j) = Some (beyond (B j) (T i) (pos 0))
 row_of job (Gap i j) = Some (beyond (T i) (B j) (space_between job i j))
 row_of job (Run i j) = Some (beyond (B i) (T j) (width_upwards job i))
+row_of job (Off q i j) = Some (beyond (T i) (B j) (apart_number job.target q))
+row_of job (Inb q i h) = Some (beyond (B h) (B i) (enclose_number job.target q))
+row_of job (Int q i h) = Some (beyond (T i) (T h) (enclose_number job.target q))
 row_of job _ = None
 
 -- the kind of the name is one of the template upwards

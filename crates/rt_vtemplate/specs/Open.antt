@@ -7,8 +7,8 @@ use Rattle.rt_rows.specs.declared.row.Var.{Var}
 use Rattle.rt_rows.specs.declared.row.Var.TheVariants.{L}
 use Rattle.rt_strips.specs.Placed.{Placed, strip_at}
 use Rattle.rt_strips.specs.Standing.{IsStrip}
-use Rattle.rt_nets.specs.declared.job.Job.{Job}
-use Rattle.rt_nets.specs.Job.{strips_of}
+use Rattle.rt_view.specs.declared.job.Job.{Job}
+use Rattle.rt_view.specs.Job.{strips_of}
 use Rattle.rt_template.specs.Vertical.{LiesBetween}
 use Rattle.rt_template.specs.Horizontal.{space_between}
 use Rattle.rt_vtemplate.specs.Steps.{columns_of}

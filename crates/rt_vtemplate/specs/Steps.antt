@@ -7,8 +7,8 @@ use Rattle.rt_strips.specs.declared.contact.Seam.{Seam}
 use Rattle.rt_strips.specs.Placed.{Placed, mask_of}
 use Rattle.rt_near.specs.declared.near.Sides.{Sides}
 use Rattle.rt_near.specs.Near.{no_sides}
-use Rattle.rt_nets.specs.declared.job.Job.{Job}
-use Rattle.rt_nets.specs.Job.{strips_of}
+use Rattle.rt_view.specs.declared.job.Job.{Job}
+use Rattle.rt_view.specs.Job.{strips_of}
 use Rattle.rt_vtemplate.specs.Added.{IsOfFirst}
 use Rattle.rt_vtemplate.specs.Kinds.{IsOfWhole, IsOfStrip, IsOfStanding, IsOfPair, IsOfTwo, AreNearStrips}
 

@@ -4,8 +4,8 @@ use Rattle.rt_rows.specs.declared.row.Var.{Var}
 use Rattle.rt_rows.specs.declared.row.Var.TheVariants.{L, R}
 use Rattle.rt_vtemplate.specs.declared.chains.Span.{Span}
 use Rattle.rt_strips.specs.Standing.{StandsOn}
-use Rattle.rt_nets.specs.declared.job.Job.{Job}
-use Rattle.rt_nets.specs.Job.{strips_of}
+use Rattle.rt_view.specs.declared.job.Job.{Job}
+use Rattle.rt_view.specs.Job.{strips_of}
 use Rattle.rt_template.specs.Vertical.{CoversBoth, IsChain}
 
 -- the span begins and ends at these columns

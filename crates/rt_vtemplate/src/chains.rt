@@ -1,7 +1,7 @@
 //! Whole chains of strips in the columns of a drawing.
 ghost use Rattle.std.specs.Prelude.{◌≡◌, ◌<◌, pos, ◌+ℤ◌, ◌-ℤ◌, ◌<ℤ◌, length, MatchBool};
 ghost use Rattle.rt_rows.specs.Places.{places};
-ghost use Rattle.rt_nets.specs.Job.{strips_of, IsJob};
+ghost use Rattle.rt_view.specs.Job.{strips_of, IsJob};
 ghost use Rattle.rt_strips.specs.Placed.{mask_of};
 ghost use Rattle.rt_template.specs.Vertical.{HaveColumns, CoversBoth, IsChain, IsWholeChain};
 ghost use Rattle.rt_vtemplate.specs.Whole.{IsLowest, IsHighest, IsWholeAt, IsWholeBeside, StandsThere, IsSpan};
@@ -9,9 +9,9 @@ ghost use Rattle.rt_vtemplate.specs.Whole.{IsLowest, IsHighest, IsWholeAt, IsWho
 use crate::nearby::columns_at;
 use crate::sight::covers;
 use rt_near::Sides;
-use rt_nets::Job;
 use rt_rows::Positions;
 use rt_strips::touching;
+use rt_view::Job;
 
 // One column of a drawing, or two: the first and the last.
 #[derive(Clone, Copy, Drop)]

@@ -1,14 +1,14 @@
 //! Strips that lie above others and aren't climbed from them.
 ghost use Rattle.std.specs.Prelude.{◌<◌, length, All, MatchBool, OnOk};
-ghost use Rattle.rt_nets.specs.Job.{strips_of};
+ghost use Rattle.rt_view.specs.Job.{strips_of};
 ghost use Rattle.rt_strips.specs.Table.{AreClimbsOf};
 ghost use Rattle.rt_vtemplate.specs.Added.{AreAdded, IsOfFirst};
 ghost use Rattle.rt_vtemplate.specs.Kinds.{IsClearAbove, IsOfClear, IsOfPair};
 ghost use Rattle.rt_vtemplate.specs.Steps.{ArePaired, IsOfPairAt};
 
 use rt_base::{List, OutOfMemory};
-use rt_nets::Job;
 use rt_rows::Name;
+use rt_view::Job;
 
 /// Adds the names of the gaps between two strips of each pair, where the one lies above the other and isn't climbed from it.
 pub(crate) fn add_of_pairs(

@@ -2,7 +2,7 @@
 ghost use Rattle.std.specs.Prelude.{◌<ℤ◌, MatchBool};
 ghost use Rattle.rt_rows.specs.Places.{places};
 ghost use Rattle.rt_tech.specs.Tech.{IsLength};
-ghost use Rattle.rt_nets.specs.Job.{strips_of, IsJob};
+ghost use Rattle.rt_view.specs.Job.{strips_of, IsJob};
 ghost use Rattle.rt_strips.specs.Placed.{placed};
 ghost use Rattle.rt_strips.specs.Standing.{IsStrip};
 ghost use Rattle.rt_template.specs.Vertical.{HaveColumns, IsKeptAbove};
@@ -11,10 +11,10 @@ ghost use Rattle.rt_vtemplate.specs.Open.{IsLessApart, AreClose, AreCloseStrips,
 use crate::nearby::columns_at;
 use crate::sight::is_seen;
 use rt_near::Sides;
-use rt_nets::Job;
 use rt_rows::Positions;
 use rt_strips::{Strip, touching};
 use rt_tech::space_of;
+use rt_view::Job;
 
 /// Whether strip j is kept above strip i: it lies above it, doesn't touch it, is near it in the columns of the drawing, and open to it.
 pub(crate) fn is_kept_above(job: &Job, columns: &Positions, i: u32, j: u32) -> bool

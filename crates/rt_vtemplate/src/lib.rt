@@ -1,6 +1,8 @@
 //! The template upwards, listed: its names at given columns, in order, and its rows.
 #![tactic(auto)]
 
+mod apart;
+mod between;
 mod chains;
 mod clear;
 mod close;

@@ -2,19 +2,20 @@
 ghost use Rattle.std.specs.Prelude.{IfOk, OnOk};
 ghost use Rattle.rt_rows.specs.Places.{places};
 ghost use Rattle.rt_rows.specs.Order.{ListsNames};
-ghost use Rattle.rt_nets.specs.Job.{IsJob};
+ghost use Rattle.rt_view.specs.Job.{IsJob};
 ghost use Rattle.rt_template.specs.Vertical.{HaveColumns, HasUpwards};
 ghost use Rattle.rt_vtemplate.specs.Added.{AreAdded, HoldsExactly};
 ghost use Rattle.rt_vtemplate.specs.Kinds.{IsOfNear, IsOfTwo};
 ghost use Rattle.rt_vtemplate.specs.Steps.{IsOfSource};
 
+use crate::between::add_between;
 use crate::clear::add_of_pairs;
 use crate::found::{add_of_strips, add_of_whole, add_standing};
 use crate::nearby::near_strips;
 use rt_base::{List, OutOfMemory};
 use rt_columns::column_names;
-use rt_nets::Job;
 use rt_rows::{Name, Positions, put_in_order};
+use rt_view::Job;
 use std::alloc::Global;
 
 /// The names of the template upwards at the columns, in its order, each once. The one error is a want of memory. (This project's own.)
@@ -37,6 +38,7 @@ fn all_names(alloc: Global, job: &Job, columns: &Positions) -> Result<List<Name>
     let mut names = column_names(alloc, job, columns)?;
     add_of_source(alloc, &mut names, job)?;
     add_near(alloc, &mut names, job, columns)?;
+    add_between(alloc, &mut names, job, columns)?;
     Ok(names)
 }
 

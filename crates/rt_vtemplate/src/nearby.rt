@@ -2,15 +2,15 @@
 ghost use Rattle.std.specs.Prelude.{◌≡◌, ◌<◌, length, map, IfOk, IsPermutation};
 ghost use Rattle.rt_rows.specs.Places.{places};
 ghost use Rattle.rt_tech.specs.declared.table.Mask.{Mask};
-ghost use Rattle.rt_nets.specs.Job.{IsJob};
+ghost use Rattle.rt_view.specs.Job.{IsJob};
 ghost use Rattle.rt_template.specs.Vertical.{HaveColumns};
 ghost use Rattle.rt_vtemplate.specs.Steps.{columns_of, AreColumnsOf, ListsNearStrips};
 
 use rt_base::{List, OutOfMemory};
 use rt_near::{Sides, near_pairs};
-use rt_nets::Job;
 use rt_rows::Positions;
 use rt_tech::Tech;
+use rt_view::Job;
 use std::alloc::Global;
 
 /// The numbers of each two strips of one mask between which fewer columns lie in the drawing than the mask's space in the target,
@@ -41,7 +41,11 @@ fn in_order(alloc: Global, pairs: &[(u32, u32)]) -> Result<List<(u32, u32)>, Out
 }
 
 // The columns of each strip in the drawing.
-fn all_columns(alloc: Global, job: &Job, columns: &Positions) -> Result<Vec<Sides>, OutOfMemory>
+pub(crate) fn all_columns(
+    alloc: Global,
+    job: &Job,
+    columns: &Positions,
+) -> Result<Vec<Sides>, OutOfMemory>
     requires columns { HaveColumns job.now columns.now }
     ensures { IfOk result (λ sides. AreColumnsOf job.now (places columns.now) (length job.now.view.strips.list) sides.items) }
 {

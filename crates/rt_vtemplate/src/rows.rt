@@ -5,15 +5,18 @@ ghost use Rattle.rt_rows.specs.declared.row.Var.TheVariants.{Height};
 ghost use Rattle.rt_rows.specs.Rows.{at_least, at_most, beyond as beyond_by};
 ghost use Rattle.rt_rows.specs.Places.{places};
 ghost use Rattle.rt_strips.specs.Placed.{mask_of};
-ghost use Rattle.rt_nets.specs.Job.{strips_of, IsJob};
+ghost use Rattle.rt_tech.specs.Tech.{IsMeasured};
+ghost use Rattle.rt_template.specs.Between.{least_height as height_of};
+ghost use Rattle.rt_view.specs.Job.{strips_of, IsJob};
 ghost use Rattle.rt_template.specs.Vertical.{HaveColumns, RowUpwards};
 ghost use Rattle.rt_vtemplate.specs.Listing.{ListsRows, row_of, with_row, IsKnown, HasNoRow, IsRowOf};
 
 use crate::names::rows_v;
 use rt_base::{List, OutOfMemory};
-use rt_nets::Job;
+use rt_between::{apart_number, enclose_number, is_of_cut, less_width};
 use rt_rows::{EXTENT_LIMIT, Name, Positions, Row, Term, Var};
 use rt_tech::{space_of, width_of};
+use rt_view::Job;
 use std::alloc::Global;
 
 /// The names of the template upwards at the columns, in its order, each with its row. The one error is a want of memory.
@@ -34,7 +37,8 @@ pub fn named_rows_v(
 
 // The names, each with its row.
 fn with_rows(alloc: Global, job: &Job, names: &[Name]) -> Result<List<(Name, Row)>, OutOfMemory>
-    requires { All (IsKnown job.now) names.now }
+    requires target { IsMeasured job.now.target }
+    requires known { All (IsKnown job.now) names.now }
     ensures { IfOk result (λ rows. rows ≡ map (with_row job.now) names.now) }
 {
     let mut rows = List::new(alloc);
@@ -50,6 +54,7 @@ fn with_rows(alloc: Global, job: &Job, names: &[Name]) -> Result<List<(Name, Row
 /// The row of a name in the template upwards, at whichever columns the template has the name: a name's row doesn't depend on the columns. None
 /// where the name's kind is none of that template's. It takes no memory. (This project's own.)
 pub fn row_v(job: &Job, name: &Name) -> Option<Row>
+    requires target { IsMeasured job.now.target }
     ensures { MatchOption result (HasNoRow job.now name.now) (IsRowOf job.now name.now) }
 {
     own_row(job, name)
@@ -57,6 +62,7 @@ pub fn row_v(job: &Job, name: &Name) -> Option<Row>
 
 /// The row of a name, if its kind is one of the template upwards.
 pub(crate) fn own_row(job: &Job, name: &Name) -> Option<Row>
+    requires target { IsMeasured job.now.target }
     ensures { result ≡ row_of job.now name.now }
 {
     match *name {
@@ -64,7 +70,12 @@ pub(crate) fn own_row(job: &Job, name: &Name) -> Option<Row>
         Name::Hi(i) => Some(beyond(Var::T(i), Var::Height, &0)),
         Name::Zero => Some(from_zero(Var::Height)),
         Name::Top => Some(within_limit()),
-        Name::Tall(i) => Some(beyond(Var::B(i), Var::T(i), &1)),
+        Name::Tall(i) => Some(beyond(Var::B(i), Var::T(i), &least_height(job, i))),
+        Name::Size(i) => Some(beyond(
+            Var::T(i),
+            Var::B(i),
+            &less_width(&job.target, mask_at(job, i)),
+        )),
         Name::On(i, j) => Some(beyond(Var::T(i), Var::B(j), &0)),
         Name::Under(i, j) => Some(beyond(Var::B(j), Var::T(i), &0)),
         Name::Gap(i, j) => Some(beyond(
@@ -77,7 +88,21 @@ pub(crate) fn own_row(job: &Job, name: &Name) -> Option<Row>
             Var::T(j),
             &width_of(&job.target, mask_at(job, i)),
         )),
+        Name::Off(q, i, j) => Some(beyond(Var::T(i), Var::B(j), &apart_number(&job.target, q))),
+        Name::Inb(q, i, h) => Some(beyond(Var::B(h), Var::B(i), &enclose_number(&job.target, q))),
+        Name::Int(q, i, h) => Some(beyond(Var::T(i), Var::T(h), &enclose_number(&job.target, q))),
         _ => None,
+    }
+}
+
+// How high a strip alone has to be: one of a cut as high as its size, and another one a row.
+fn least_height(job: &Job, i: u32) -> i64
+    ensures { result ≡ height_of job.now i }
+{
+    if is_of_cut(job, i) {
+        width_of(&job.target, mask_at(job, i))
+    } else {
+        1
     }
 }
 

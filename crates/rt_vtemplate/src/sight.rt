@@ -3,15 +3,15 @@ ghost use Rattle.std.specs.Prelude.{◌≡◌, ◌<◌, length, MatchBool, Match
 ghost use Rattle.std.specs.Int.{int_max, int_min};
 ghost use Rattle.rt_rows.specs.declared.row.Var.TheVariants.{L, R};
 ghost use Rattle.rt_rows.specs.Places.{places};
-ghost use Rattle.rt_nets.specs.Job.{strips_of, IsJob};
+ghost use Rattle.rt_view.specs.Job.{strips_of, IsJob};
 ghost use Rattle.rt_strips.specs.Placed.{placed};
 ghost use Rattle.rt_strips.specs.Standing.{AreOfOneMask};
 ghost use Rattle.rt_template.specs.Vertical.{HaveColumns, CoversColumn, LiesBetween, IsSeenFrom};
 ghost use Rattle.rt_vtemplate.specs.Open.{LiesInRows, AreInRows, HasNoneBetween};
 
-use rt_nets::Job;
 use rt_rows::Positions;
 use rt_strips::Strip;
+use rt_view::Job;
 
 /// Whether strip j, above strip i of its mask, is seen from it in the columns of the drawing. It goes from the first column that both have to the
 /// right, past each strip that it meets between them.

@@ -2,16 +2,18 @@
 ghost use Rattle.std.specs.Prelude.{MatchBool, MatchOption};
 ghost use Rattle.rt_rows.specs.declared.row.Row.{Row as RowValue};
 ghost use Rattle.rt_rows.specs.Places.{places};
-ghost use Rattle.rt_nets.specs.Job.{strips_of, IsJob};
+ghost use Rattle.rt_view.specs.Job.{strips_of, IsJob};
 ghost use Rattle.rt_strips.specs.Standing.{StandsOn};
 ghost use Rattle.rt_template.specs.Vertical.{HaveColumns, IsWholeChain, RowUpwards, HasUpwards};
 
+use crate::apart::is_off_above;
 use crate::chains::is_whole_chain;
 use crate::close::{are_both_strips, is_kept_above, is_strip};
 use crate::rows::own_row;
-use rt_nets::Job;
+use rt_between::{is_cut_strip, is_highest_host, is_lowest_host};
 use rt_rows::{Name, Positions, Row};
 use rt_strips::touching;
+use rt_view::Job;
 
 /// The row of that name in the template upwards at the columns, where the template has it. It takes no memory. (This project's own.)
 pub fn has_row_v(job: &Job, columns: &Positions, name: Name) -> Option<Row>
@@ -27,7 +29,7 @@ pub fn has_row_v(job: &Job, columns: &Positions, name: Name) -> Option<Row>
 }
 
 // Whether the template has a row of that name.
-fn has_name(job: &Job, columns: &Positions, name: &Name) -> bool
+pub(crate) fn has_name(job: &Job, columns: &Positions, name: &Name) -> bool
     requires job { IsJob job.now }
     requires columns { HaveColumns job.now columns.now }
     ensures { MatchBool result (HasUpwards job.now (places columns.now) name.now) (¬ HasUpwards job.now (places columns.now) name.now) }
@@ -38,10 +40,14 @@ fn has_name(job: &Job, columns: &Positions, name: &Name) -> bool
         Name::Zero => true,
         Name::Top => true,
         Name::Tall(i) => is_strip(job, i),
+        Name::Size(i) => is_cut_strip(job, i),
         Name::On(i, j) => stands_on(job, i, j),
         Name::Under(i, j) => stands_on(job, i, j),
         Name::Gap(i, j) => is_kept_above(job, columns, i, j),
         Name::Run(i, j) => has_run(job, columns, i, j),
+        Name::Off(q, i, j) => is_off_above(job, columns, q, i, j),
+        Name::Inb(q, i, h) => is_lowest_host(job, q, i, h),
+        Name::Int(q, i, h) => is_highest_host(job, q, i, h),
         _ => false,
     }
 }

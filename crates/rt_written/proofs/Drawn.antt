@@ -1,4 +1,4 @@
--- The layout of rectangles: each on its mask, in order.
+-- The layout of rectangles, each on its mask, in order, and of labels.
 use Rattle.std.proofs.Common.{◌≡◌, ℕ, ◌-◌, ◌^◌, ◌<◌, ◌≤◌, ℤ, pos, negsuc, neg_ℤ, ◌≤ℤ◌, Bool, true, false, cond, ◌==◌, List, [], ◌∷◌, length, map, filter, get_or, All, refl, sym, ◌∙◌, ap, ap₂, arith, ⊎_elim}
 use Rattle.std.specs.List.{AllZip, range_with_len}
 use Rattle.std.proofs.Math.ListN.{get_or-eq_default}
@@ -9,6 +9,7 @@ use Rattle.std.proofs.lemmas.List.Elements.{All-nil, All-cons, All-head, All-tai
 use Rattle.rt_base.specs.declared.plane.Rect.{Rect}
 use Rattle.rt_base.specs.Plane.{area}
 use Rattle.rt_cells.specs.Rectangles.{Rectangle, IsNonempty}
+use Rattle.rt_layout.specs.declared.layout.Label.{Label}
 use Rattle.rt_layout.specs.declared.layout.Layout.{Layout}
 use Rattle.rt_tech.specs.declared.table.Tech.{Tech}
 use Rattle.rt_tech.specs.Tech.{mask_count}
@@ -90,7 +91,7 @@ none_there count m (r ∷ rs) all over =
 
 -- ---- the layout
 
-module _ (tech : Tech) (rectangles : List Placed) (all : All (IsDrawable (mask_count tech)) rectangles) where
+module _ (tech : Tech) (rectangles : List Placed) (labels : List Label) (all : All (IsDrawable (mask_count tech)) rectangles) where
   abbrev mask : ℕ → List Rect
   mask m = (rects_on (mask_count tech) m rectangles all).rects
 
@@ -110,12 +111,12 @@ module _ (tech : Tech) (rectangles : List Placed) (all : All (IsDrawable (mask_c
       ap (map area) (get_or-eq_default masks [] (omega (arith, e, over))) ∙ sym (none_there (mask_count tech) m rectangles all over)
 
   -- the layout has just these
-  pub drawn : (layout : Layout) × IsLayoutOf tech rectangles layout
+  pub drawn : (layout : Layout) × IsLayoutOf tech rectangles labels layout
   drawn = (
-    record { masks = masks; labels = [] },
+    record { masks = masks; labels = labels },
     record {
       masks = long;
       rectangles_are = λ m. ⊎_elim (there m) (beyond m) (cases_lt m (mask_count tech));
-      no_labels = refl;
+      labels_are = refl;
     },
   )

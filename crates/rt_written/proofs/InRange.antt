@@ -1,11 +1,12 @@
 -- The points of a stream have coordinates of 32 bits. So a layout can have the rectangles that are written.
-use Rattle.std.proofs.Common.{ℕ, ◌-◌, ◌^◌, ℤ, pos, neg_ℤ, ◌≤ℤ◌, Bool, true, false, cond, ◌==◌, List, [], ◌∷◌, map, Option, Some, None, MatchOption, All, sym, subst, arith}
+use Rattle.std.proofs.Common.{ℕ, ◌-◌, ◌^◌, ℤ, pos, neg_ℤ, ◌≤ℤ◌, Bool, true, false, cond, ◌==◌, List, [], ◌∷◌, ◌++◌, map, Option, Some, None, MatchOption, All, sym, subst, arith}
 use Rattle.std.specs.Prelude.{if◌then◌else◌}
 use Rattle.std.specs.Int.{w32, cast_signed}
 use Rattle.std.specs.List.{AllZip, filter_map, cons_option}
 use Rattle.std.proofs.lemmas.Int.{ints}
 use Rattle.std.proofs.lemmas.List.Elements.{All-nil, All-cons, All-head, All-tail}
 use Rattle.rt_base.specs.declared.plane.Point.{Point}
+use Rattle.rt_layout.specs.declared.layout.Label.{Label as Mark}
 use Rattle.rt_tech.specs.declared.table.Tech.{Tech}
 use Rattle.rt_strips.specs.Placed.{Placed}
 use Rattle.gds_records.specs.declared.types.TheConstants.{BOUNDARY, PATH, SREF, AREF, TEXT, BOX, LAYER, DATATYPE, TEXTTYPE, BOXTYPE, SNAME, STRING, XY, BGNSTR, ENDSTR, ENDEL}
@@ -145,20 +146,20 @@ in_range r all =
       top = high_far r.area.top small.1.y;
     }
 
-all_in_range : (tech : Tech) (elements : List Element) (rectangles : List Placed) → AllZip (IsPolygonOf tech) elements rectangles
-    → All HasSmallPoints elements → All IsInRange rectangles
-all_in_range tech [] [] polygons all = All-nil IsInRange
-all_in_range tech [] (r ∷ rs) polygons all = absurd polygons
-all_in_range tech (e ∷ es) [] polygons all = absurd polygons
-all_in_range tech (e ∷ es) (r ∷ rs) polygons all =
+all_in_range : (tech : Tech) (outlines notes : List Element) (rectangles : List Placed) → AllZip (IsPolygonOf tech) outlines rectangles
+    → All HasSmallPoints (outlines ++ notes) → All IsInRange rectangles
+all_in_range tech [] notes [] polygons all = All-nil IsInRange
+all_in_range tech [] notes (r ∷ rs) polygons all = absurd polygons
+all_in_range tech (e ∷ es) notes [] polygons all = absurd polygons
+all_in_range tech (e ∷ es) notes (r ∷ rs) polygons all =
     let p : IsPolygonOf tech e r = polygons.0 in
-    All-cons IsInRange r rs (in_range r (subst HasSmallPoints p.is_polygon (All-head HasSmallPoints e es all)))
-    (all_in_range tech es rs polygons.1 (All-tail HasSmallPoints e es all))
+    All-cons IsInRange r rs (in_range r (subst HasSmallPoints p.is_polygon (All-head HasSmallPoints e (es ++ notes) all)))
+    (all_in_range tech es notes rs polygons.1 (All-tail HasSmallPoints e (es ++ notes) all))
 
 -- the rectangles that a stream's cell is written as are in range
-pub written_in_range : (tech : Tech) (bytes : List ℕ) (library : Library) (name : List ℕ) (rectangles : List Placed) → Stream bytes library
-    → IsWrittenAs tech library name rectangles → All IsInRange rectangles
-written_in_range tech bytes library name rectangles stream written =
-    all_in_range tech written.elements rectangles written.polygons
-    (All-head HasSmallElements (record { name = name; elements = written.elements }) []
+pub written_in_range : (tech : Tech) (bytes : List ℕ) (library : Library) (name : List ℕ) (rectangles : List Placed) (labels : List Mark)
+    → Stream bytes library → IsWrittenAs tech library name rectangles labels → All IsInRange rectangles
+written_in_range tech bytes library name rectangles labels stream written =
+    all_in_range tech written.outlines written.notes rectangles written.polygons
+    (All-head HasSmallElements (record { name = name; elements = written.outlines ++ written.notes }) []
     (subst (λ (ss : List Structure). All HasSmallElements ss) written.one_structure (stream_small bytes library stream)))

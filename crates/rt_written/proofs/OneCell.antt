@@ -1,21 +1,22 @@
--- A written cell is one structure that places nothing: what it covers on a mask is what the rectangles of the mask cover.
-use Rattle.std.proofs.Common.{◌≡◌, ℕ, ℤ, Bool, true, false, cond, ◌==◌, List, [], ◌∷◌, filter, Some, None, AllPairs, Contains, refl, sym, ◌∙◌, ap, subst, inl, inr, eq-eqb}
+-- A written cell is one structure that places nothing: what it covers on a mask is what the rectangles of the mask cover. Texts cover nothing.
+use Rattle.std.proofs.Common.{◌≡◌, ℕ, ℤ, ◌⊎◌, Bool, true, false, cond, ◌==◌, List, [], ◌∷◌, ◌++◌, filter, Some, None, AllPairs, Contains, refl, sym, ◌∙◌, ap, subst, inl, inr, eq-eqb}
 use Rattle.std.specs.List.{AllZip}
 use Rattle.std.proofs.lemmas.Bool.{eqb-true}
 use Rattle.std.proofs.lemmas.Slice.Eq.{bytes_eq-Decides}
 use Rattle.rt_cells.specs.Rectangles.{Rectangle, Holds, Covers}
 use Rattle.rt_cells.proofs.Lists.{mapped, mapped_from, filtered, filtered_from}
+use Rattle.rt_layout.specs.declared.layout.Label.{Label}
 use Rattle.rt_tech.specs.declared.table.Tech.{Tech}
 use Rattle.rt_tech.specs.Tech.{AreDistinct}
 use Rattle.rt_strips.specs.Placed.{Placed, areas_of}
 use Rattle.gds_stream.specs.declared.library.Element.{Element}
 use Rattle.gds_stream.specs.declared.library.Structure.{Structure}
-use Rattle.gds_slabs.proofs.Members.{Among, among_from_contains, contains_from_among}
+use Rattle.gds_slabs.proofs.Members.{Among, among_from_contains, contains_from_among, among_append_left, among_append_cases}
 use Rattle.gds_flat.specs.Reach.{Name, structure_named, target, is_named}
 use Rattle.gds_flat.specs.Elements.{mask_of}
 use Rattle.gds_flat.specs.Placing.{ElementCovers, Covered}
 use Rattle.gds_flat.specs.Placing.Covered.{own, placed}
-use Rattle.rt_written.specs.Written.{IsPolygonOf}
+use Rattle.rt_written.specs.Written.{IsPolygonOf, IsTextOf}
 use Rattle.rt_written.proofs.OnePolygon.{held, covered}
 use Rattle.rt_written.proofs.OneMask.{mask_found}
 
@@ -75,29 +76,47 @@ areas_cover m rectangles r x y at e holds = (
   holds,
 )
 
-module _ (tech : Tech) (apart : AllPairs AreDistinct tech.masks) (name : Name) (elements : List Element) (rectangles : List Placed)
-    (polygons : AllZip (IsPolygonOf tech) elements rectangles) where
+module _ (tech : Tech) (apart : AllPairs AreDistinct tech.masks) (name : Name) (outlines notes : List Element) (rectangles : List Placed) (labels : List Label)
+    (polygons : AllZip (IsPolygonOf tech) outlines rectangles) (texts : AllZip (IsTextOf tech) notes labels) where
   -- what the rectangles cover, the cell covers
-  pub drawn_covered : (m : ℕ) (x y : ℤ) → Covers (areas_of m rectangles) x y → Covered (the_structure name elements ∷ []) tech name m (x, y)
+  pub drawn_covered : (m : ℕ) (x y : ℤ) → Covers (areas_of m rectangles) x y → Covered (the_structure name (outlines ++ notes) ∷ []) tech name m (x, y)
   drawn_covered m x y h =
       let f = mapped_from (λ (p : Placed). p.area) (filter (λ (p : Placed). p.mask == m) rectangles) h.0 h.1 in
       let g = filtered_from (λ (p : Placed). p.mask == m) rectangles f.0 f.1 in
-      let z = zip_right (IsPolygonOf tech) elements rectangles f.0 polygons (among_from_contains rectangles f.0 g.0) in
-      own (the_structure name elements) z.0 (structure_found name elements) (contains_from_among elements z.0 z.1)
+      let z = zip_right (IsPolygonOf tech) outlines rectangles f.0 polygons (among_from_contains rectangles f.0 g.0) in
+      own (the_structure name (outlines ++ notes)) z.0 (structure_found name (outlines ++ notes))
+      (contains_from_among (outlines ++ notes) z.0 (among_append_left outlines notes z.0 z.1))
       (on_mask tech apart z.0 f.0 z.2 ∙ ap Some (eqb-true (f.0).mask m g.1))
       (held_covers tech apart z.0 f.0 z.2 x y (subst (λ (r : Rectangle). Holds r x y) (sym f.2) h.2))
 
-  -- and nothing else
-  pub covered_drawn : {n : Name} {m : ℕ} {cell : ℤ × ℤ} → Covered (the_structure name elements ∷ []) tech n m cell → Covers (areas_of m rectangles) cell.0 cell.1
-  covered_drawn {n = n} {m = m} {cell = cell} (own s e found has at covers) =
-      let same = only_found (is_named n (the_structure name elements)) (the_structure name elements) s found in
-      let z = zip_left (IsPolygonOf tech) elements rectangles e polygons
-      (among_from_contains elements e (subst (λ (t : Structure). Contains t.elements e) (sym same) has)) in
+  -- an element of the cell is a polygon or a text
+  element_cases : (s : Structure) (e : Element) → the_structure name (outlines ++ notes) ≡ s → Contains s.elements e → Among outlines e ⊎ Among notes e
+  element_cases s e same has =
+      among_append_cases outlines notes e (among_from_contains (outlines ++ notes) e (subst (λ (t : Structure). Contains t.elements e) (sym same) has))
+
+  -- an element that covers a cell on a mask is a polygon
+  by_element : (m : ℕ) (cell : ℤ × ℤ) (e : Element) → Among outlines e ⊎ Among notes e → mask_of tech e ≡ Some m → ElementCovers e cell
+      → Covers (areas_of m rectangles) cell.0 cell.1
+  by_element m cell e (inl k) at covers =
+      let z = zip_left (IsPolygonOf tech) outlines rectangles e polygons k in
       areas_cover m rectangles z.0 cell.0 cell.1 z.1 (one_some (z.0).mask m (sym (on_mask tech apart e z.0 z.2) ∙ at))
       (covers_held tech apart e z.0 z.2 cell.0 cell.1 covers)
+  by_element m cell e (inr k) at covers =
+      let z = zip_left (IsTextOf tech) notes labels e texts k in
+      absurd (subst (λ (t : Element). ElementCovers t cell) (z.2).is_text covers)
+
+  -- none places a structure
+  none_placed : (e : Element) → Among outlines e ⊎ Among notes e → target e ≡ None
+  none_placed e (inl k) = let z = zip_left (IsPolygonOf tech) outlines rectangles e polygons k in places_none tech apart e z.0 z.2
+  none_placed e (inr k) = let z = zip_left (IsTextOf tech) notes labels e texts k in ap target (z.2).is_text
+
+  -- and nothing else
+  pub covered_drawn : {n : Name} {m : ℕ} {cell : ℤ × ℤ} → Covered (the_structure name (outlines ++ notes) ∷ []) tech n m cell
+      → Covers (areas_of m rectangles) cell.0 cell.1
+  covered_drawn {n = n} {m = m} {cell = cell} (own s e found has at covers) =
+      let same = only_found (is_named n (the_structure name (outlines ++ notes))) (the_structure name (outlines ++ notes)) s found in
+      by_element m cell e (element_cases s e same has) at covers
   covered_drawn {n = n} {m = m} {cell = cell} (placed s e to steps step from found has is of among within moved) =
-      let same = only_found (is_named n (the_structure name elements)) (the_structure name elements) s found in
-      let z = zip_left (IsPolygonOf tech) elements rectangles e polygons
-      (among_from_contains elements e (subst (λ (t : Structure). Contains t.elements e) (sym same) has)) in
-      let none = places_none tech apart e z.0 z.2 in
+      let same = only_found (is_named n (the_structure name (outlines ++ notes))) (the_structure name (outlines ++ notes)) s found in
+      let none = none_placed e (element_cases s e same has) in
       cc

@@ -6,12 +6,12 @@ pub fn corners_are_one_slab()
     ensures { CornersAreOneSlab }
 {}
 
-/// Law: whatever a written cell flattens to has just the drawn rectangles, by mask and in order, and no label.
+/// Law: whatever a written cell flattens to has just the drawn rectangles, by mask and in order, and the drawn labels, in order.
 pub fn flat_is_the_drawing()
     ensures { FlatIsTheDrawing }
 {}
 
-/// Law: each layout of just the drawn rectangles is what the written cell flattens to.
+/// Law: each layout of just the drawn rectangles and labels is what the written cell flattens to.
 pub fn drawing_is_flat()
     ensures { DrawingIsFlat }
 {}
@@ -26,12 +26,12 @@ pub fn stream_reads_back()
     ensures { StreamReadsBack }
 {}
 
-/// Law: the masks of a layout of just these rectangles cover what the rectangles cover.
+/// Law: the masks of a layout of just these rectangles and labels cover what the rectangles cover.
 pub fn layout_covers_alike()
     ensures { LayoutCoversAlike }
 {}
 
-/// Law: a layout of just these rectangles breaks no rule where they break none.
+/// Law: a layout of just these rectangles and labels breaks no rule where they break none.
 pub fn layout_keeps_rules()
     ensures { LayoutKeepsRules }
 {}

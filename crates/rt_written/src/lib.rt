@@ -1,4 +1,4 @@
-//! What is written of a drawing, polygons round its rectangles, and what is read back of it: a layout of just these rectangles.
+//! What is written of a drawing, polygons round its rectangles and then its labels as texts, and what is read back of it: a layout of just these rectangles and labels.
 #![tactic(auto)]
 
 mod laws;

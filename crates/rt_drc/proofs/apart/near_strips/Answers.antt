@@ -1,4 +1,4 @@
-use Rattle.std.proofs.Common.{ap, length, map, sym, ◌∙◌}
+use Rattle.std.proofs.Common.{ap, length, map, ◌∙◌}
 use Rattle.std.proofs.lemmas.List.{length-map}
 use Rattle.std.proofs.lemmas.Option.{MatchOption-at_some, MatchOption-at_none}
 use Rattle.rt_strips.specs.declared.listing.Strip.{Strip}

@@ -5,8 +5,8 @@ use Rattle.std.proofs.lemmas.Option.{MatchOption-at_some, MatchOption-at_none}
 use Rattle.rt_sweep.specs.declared.bar.Bar.{Bar}
 use Rattle.rt_sweep.specs.declared.step.Slab.{Slab}
 use Rattle.rt_sweep.specs.Slabs.{AreBelow, PassesSlab}
-use Rattle.rt_drc.specs.Clashing.{HasGroup, AreGroupedAcross, ClashAcross, DoClash}
-use Rattle.rt_drc.proofs.Walking.{AreGroupedBelow, grouped_along, clash_along, active_groups, grouped_below_all, slab_passed, clash_in_slab}
+use Rattle.rt_drc.specs.Clashing.{HasGroup, AreGroupedAcross, ClashAcross}
+use Rattle.rt_drc.proofs.Walking.{grouped_along, clash_along, active_groups, grouped_below_all, slab_passed, clash_in_slab}
 use Rattle.rt_drc.proofs.clash.first_clash.Goals as goal
 
 pub returns-in-Some-clash_across : goal.returns-in-Some-clash_across

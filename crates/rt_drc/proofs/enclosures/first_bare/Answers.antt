@@ -1,6 +1,6 @@
 use Rattle.std.proofs.Common.{map}
 use Rattle.rt_strips.specs.Placed.{placed, covered_by}
-use Rattle.rt_drc.proofs.Enclosed.{was_grown, missing_near, missing_shows, all_whole}
+use Rattle.rt_drc.proofs.Enclosed.{was_grown, missing_near, missing_shows}
 use Rattle.rt_drc.proofs.enclosures.first_bare.Goals as goal
 
 pub shrunk-requires-clause-grown : goal.shrunk-requires-clause-grown

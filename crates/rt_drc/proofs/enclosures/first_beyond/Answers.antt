@@ -1,6 +1,4 @@
-use Rattle.std.proofs.Common.{map}
-use Rattle.rt_strips.specs.Placed.{placed}
-use Rattle.rt_drc.proofs.Enclosed.{room_more, room_same, room_all, beyond_shows}
+use Rattle.rt_drc.proofs.Enclosed.{room_more, room_same, beyond_shows}
 use Rattle.rt_drc.proofs.enclosures.first_beyond.Goals as goal
 use Rattle.rt_drc.proofs.enclosures.first_beyond.Goals.{then-counts+in_default, else-counts}
 

@@ -1,4 +1,4 @@
-use Rattle.std.proofs.Common.{◌+◌, ap, Global, length, map, subst, sym, Vec, ◌∙◌}
+use Rattle.std.proofs.Common.{◌+◌, ap, Global, map, subst, sym, Vec, ◌∙◌}
 use Rattle.rt_base.specs.declared.plane.Rect.{Rect}
 use Rattle.rt_strips.specs.Placed.{placed}
 use Rattle.rt_drc.specs.Enclosing.{AreGrownOf}

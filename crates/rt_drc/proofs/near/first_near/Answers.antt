@@ -1,4 +1,4 @@
-use Rattle.std.proofs.Common.{◌<◌, ℕ, arith, length, map}
+use Rattle.std.proofs.Common.{length, map}
 use Rattle.std.proofs.lemmas.Option.{MatchOption-at_some, MatchOption-at_none}
 use Rattle.rt_strips.specs.Placed.{placed}
 use Rattle.rt_strips.proofs.Placed.{strip_below}

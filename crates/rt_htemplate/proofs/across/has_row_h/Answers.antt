@@ -13,4 +13,4 @@ pub returns-in_default : goal.returns-in_default
 returns-in_default c = λ row.
     let others = c.in_default in
     no_other c.args.job.now c.args.name row others.not-Lo others.not-Hi others.not-Zero others.not-Top others.not-Wide others.not-Ll others.not-Rr others.not-Share
-    others.not-Gap
+    others.not-Gap others.not-Size others.not-Off others.not-Inl others.not-Inr

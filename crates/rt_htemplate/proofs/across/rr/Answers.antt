@@ -1,4 +1,4 @@
-use Rattle.rt_nets.specs.Job.{strips_of}
+use Rattle.rt_view.specs.Job.{strips_of}
 use Rattle.rt_strips.specs.Placed.{placed}
 use Rattle.rt_htemplate.proofs.Reading.{read_is, touch_first, touch_second}
 use Rattle.rt_htemplate.proofs.Answered.{no_rr, rr_is}

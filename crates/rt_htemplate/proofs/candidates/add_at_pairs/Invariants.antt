@@ -1,4 +1,5 @@
-use Rattle.rt_htemplate.specs.Candidates.{names_at_pair, AreOffered}
+use Rattle.rt_between.specs.Offers.{AreOffered}
+use Rattle.rt_htemplate.specs.Candidates.{names_at_pair}
 use Rattle.rt_htemplate.proofs.candidates.add_at_pairs.Given as goal
 
 abbrev pub invariant-loop-pair : goal.invariant-loop-pair

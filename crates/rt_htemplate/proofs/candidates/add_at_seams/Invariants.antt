@@ -1,4 +1,5 @@
-use Rattle.rt_htemplate.specs.Candidates.{names_at_seam, AreOffered}
+use Rattle.rt_between.specs.Offers.{AreOffered}
+use Rattle.rt_htemplate.specs.Candidates.{names_at_seam}
 use Rattle.rt_htemplate.proofs.candidates.add_at_seams.Given as goal
 
 abbrev pub invariant-loop-seam : goal.invariant-loop-seam

@@ -1,6 +1,7 @@
 use Rattle.std.proofs.Common.{ℕ, List, length, subst}
 use Rattle.std.proofs.lemmas.Result.{on_ok_weaker}
-use Rattle.rt_htemplate.specs.Candidates.{names_at_pair, AreOffered, AreOfferedForKept}
+use Rattle.rt_between.specs.Offers.{AreOffered}
+use Rattle.rt_htemplate.specs.Candidates.{names_at_pair, AreOfferedForKept}
 use Rattle.rt_htemplate.proofs.Offers.{for_kept}
 use Rattle.rt_htemplate.proofs.candidates.add_of_kept.Goals as goal
 

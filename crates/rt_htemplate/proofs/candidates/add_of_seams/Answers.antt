@@ -2,7 +2,8 @@ use Rattle.std.proofs.Common.{List, length, map, subst}
 use Rattle.std.proofs.lemmas.Result.{on_ok_weaker}
 use Rattle.rt_strips.specs.declared.contact.Seam.{Seam}
 use Rattle.rt_strips.specs.Placed.{placed}
-use Rattle.rt_htemplate.specs.Candidates.{names_at_seam, AreOffered, AreOfferedAtSeams}
+use Rattle.rt_between.specs.Offers.{AreOffered}
+use Rattle.rt_htemplate.specs.Candidates.{names_at_seam, AreOfferedAtSeams}
 use Rattle.rt_htemplate.proofs.Offers.{at_seams}
 use Rattle.rt_htemplate.proofs.candidates.add_of_seams.Goals as goal
 

@@ -8,9 +8,10 @@ use Rattle.rt_rows.specs.declared.name.Name.TheVariants.{Zero, Top}
 use Rattle.rt_strips.specs.declared.listing.Strip.{Strip}
 use Rattle.rt_strips.specs.Placed.{placed}
 use Rattle.rt_strips.specs.StripsOf.{AreStrips}
-use Rattle.rt_nets.specs.Job.{strips_of}
+use Rattle.rt_view.specs.Job.{strips_of}
 use Rattle.rt_htemplate.specs.Candidates.{names_of_strip, AreOfferedAtSeams}
-use Rattle.rt_htemplate.proofs.Offers.{all_offered, hold_all}
+use Rattle.rt_between.proofs.Growing.{all_offered}
+use Rattle.rt_htemplate.proofs.Offers.{hold_all}
 use Rattle.rt_htemplate.proofs.candidates.candidates.Goals as goal
 
 pub add_of_seams-requires-clause-strips : goal.add_of_seams-requires-clause-strips
@@ -26,10 +27,10 @@ returns c =
     let list = c.as_slice-list.result.now in
     let two = Zero ∷ Top ∷ [] in
     let same = ap length c.as_slice-list.ensures in
-    hold_all job c.add.new.names c.add_of_strips.new.names c.add_of_seams.new.names c.add_of_kept.new.names
-    (first_there c.new-names.result two c.add.new.names Zero c.in_ok-add.ensures (0, omega arith, refl))
-    (first_there c.new-names.result two c.add.new.names Top c.in_ok-add.ensures (1, omega arith, refl))
-    (all_offered names_of_strip (length list) (length (strips_of job)) c.add.new.names c.add_of_strips.new.names
+    hold_all job c.add_names.new.names c.add_of_strips.new.names c.add_of_seams.new.names c.add_of_kept.new.names c.add_between.new.names
+    (first_there c.new-names.result two c.add_names.new.names Zero c.in_ok-add_names.ensures (0, omega arith, refl))
+    (first_there c.new-names.result two c.add_names.new.names Top c.in_ok-add_names.ensures (1, omega arith, refl))
+    (all_offered names_of_strip (length list) (length (strips_of job)) c.add_names.new.names c.add_of_strips.new.names
     (omega (arith, same, length-map job.view.strips.list placed)) c.in_ok-add_of_strips.ensures)
     (subst (λ (l : List Strip). AreOfferedAtSeams (map placed l) c.add_of_strips.new.names c.add_of_seams.new.names) c.as_slice-list.ensures c.in_ok-add_of_seams.ensures)
-    c.in_ok-add_of_kept.ensures
+    c.in_ok-add_of_kept.ensures c.in_ok-add_between.ensures

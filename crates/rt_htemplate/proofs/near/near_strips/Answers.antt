@@ -3,8 +3,10 @@ use Rattle.std.specs.Prelude.{All}
 use Rattle.std.proofs.lemmas.Result.{IfOk-weaker}
 use Rattle.rt_near.specs.declared.near.Sides.{Sides}
 use Rattle.rt_near.specs.Near.{IsInterval, ListsNearPairs}
-use Rattle.rt_htemplate.specs.Near.{side_of, space_in}
-use Rattle.rt_htemplate.proofs.Pairs.{all_intervals, hold_kept}
+use Rattle.rt_htemplate.specs.Near.{space_in}
+use Rattle.rt_between.specs.Pairing.{side_of}
+use Rattle.rt_between.proofs.Among.{all_intervals}
+use Rattle.rt_htemplate.proofs.Pairs.{hold_kept}
 use Rattle.rt_htemplate.proofs.near.near_strips.Goals as goal
 use Rattle.rt_htemplate.proofs.near.near_strips.Goals.{After-as_slice-3}
 

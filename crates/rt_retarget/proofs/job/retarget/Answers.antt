@@ -2,13 +2,18 @@ use Rattle.std.proofs.Common.{subst}
 use Rattle.rt_place.specs.Placing.{IsPlaceErrorOf}
 use Rattle.rt_retarget.specs.Jobs.{given, inputs_of}
 use Rattle.rt_retarget.proofs.Assembled.{cell_of, library_short}
-use Rattle.rt_retarget.proofs.Moving.{a_job, few_strips, done, infeasible}
+use Rattle.rt_retarget.proofs.Moving.{a_job, few_strips, unlabelled, done, infeasible}
 use Rattle.rt_retarget.proofs.job.retarget.Goals as goal
 
 pub stream_of-requires-clause-job : goal.stream_of-requires-clause-job
 stream_of-requires-clause-job g c =
     let work = c.in_ok-work.work in
     a_job (given c.args.source.now c.args.stable.now c.args.ttable.now c.args.sizes.now) work.library work.asked work.job c.in_ok-work.ensures.job
+
+pub stream_of-requires-clause-unlabelled : goal.stream_of-requires-clause-unlabelled
+stream_of-requires-clause-unlabelled g c =
+    let work = c.in_ok-work.work in
+    unlabelled (given c.args.source.now c.args.stable.now c.args.ttable.now c.args.sizes.now) work.library work.asked work.job c.in_ok-work.ensures.job
 
 pub stream_of-requires-clause-few : goal.stream_of-requires-clause-few
 stream_of-requires-clause-few g c =

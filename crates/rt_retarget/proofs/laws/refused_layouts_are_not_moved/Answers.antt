@@ -1,8 +1,11 @@
-use Rattle.rt_retarget.proofs.Excluded.{too_many_stripped, unsound_sound, labels_taken, strays_wished}
+use Rattle.rt_retarget.proofs.Excluded.{too_many_stripped, misshapen_shaped, unsound_sound, labels_taken, strays_wished}
 use Rattle.rt_retarget.proofs.laws.refused_layouts_are_not_moved.Goals as goal
 
 pub returns-clause-too_many : goal.returns-clause-too_many
 returns-clause-too_many c = too_many_stripped
+
+pub returns-clause-misshapen : goal.returns-clause-misshapen
+returns-clause-misshapen c = misshapen_shaped
 
 pub returns-clause-unsound : goal.returns-clause-unsound
 returns-clause-unsound c = unsound_sound

@@ -1,6 +1,12 @@
 use Rattle.std.proofs.lemmas.Result.{err_from_is_err_and}
-use Rattle.rt_retarget.proofs.Assembled.{label_fault, taken, checked}
+use Rattle.gds_flat_laws.proofs.NearLabels.{labels_are_near}
+use Rattle.rt_retarget.proofs.Assembled.{plain, label_fault, taken, checked}
 use Rattle.rt_retarget.proofs.source.cell_view.Goals as goal
+
+pub sound_view-requires-clause-points : goal.sound_view-requires-clause-points
+sound_view-requires-clause-points c =
+    plain c.in_ok-layout.layout.labels
+    (labels_are_near c.args.library.now.structures c.args.inputs.now.asked.cell c.args.inputs.now.tables.source c.in_ok-layout.layout c.in_ok-layout.ensures.flat)
 
 pub returns-in_err-view-clause-refused : goal.returns-in_err-view-clause-refused
 returns-in_err-view-clause-refused c =

@@ -2,7 +2,7 @@ use Rattle.std.proofs.Common.{◌≤◌, length, sym, subst}
 use Rattle.std.proofs.lemmas.Result.{err_from_is_err_and}
 use Rattle.rt_strips.specs.declared.listing.Strips.{Strips}
 use Rattle.rt_retarget.specs.declared.source.TheConstants.{STRIP_LIMIT}
-use Rattle.rt_retarget.proofs.Assembled.{stripped, clean_layout}
+use Rattle.rt_retarget.proofs.Assembled.{shaped, clean_layout}
 use Rattle.rt_retarget.proofs.source.sound_view.Goals as goal
 
 pub returns-in_err-check_source-clause-refused : goal.returns-in_err-check_source-clause-refused
@@ -14,7 +14,7 @@ returns-in_err-check_source-clause-refused c =
     subst (λ (s : Strips). length s.list ≤ STRIP_LIMIT) (sym c.in_ok-view.ensures.same) c.in_ok-strips.ensures.few in
     rw (p.1, p.2) (λ files library laid.
     c.in_err-check_source.ensures.refused files library c.args.layout.now is
-    (stripped files c.args.inputs.now library c.args.layout.now view laid is few))
+    (shaped files c.args.inputs.now library c.args.layout.now view laid is few))
 
 pub returns-clause-view : goal.returns-clause-view
 returns-clause-view c =
@@ -23,5 +23,5 @@ returns-clause-view c =
     record {
       is_view = is;
       few = subst (λ (s : Strips). length s.list ≤ STRIP_LIMIT) (sym c.in_ok-view.ensures.same) c.in_ok-strips.ensures.few;
-      clean = clean_layout c.args.inputs.now c.args.layout.now view is c.in_ok-check_source.ensures.kept;
+      clean = clean_layout c.args.inputs.now c.requires.tables.source.pairs c.args.layout.now view is c.in_ok-check_source.ensures.kept;
     }

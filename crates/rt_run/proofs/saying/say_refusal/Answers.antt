@@ -17,3 +17,6 @@ returns-in-SourceRule g c =
     let says = rw c.as_slice-in-SourceRule.ensures at c.say_source_rule.ensures in
     rw c.in-SourceRule.is (rule_line _ _ c.in-SourceRule.rule _ c.in-SourceRule.p c.in-SourceRule.q c.in-SourceRule.found c.in-SourceRule.needed _ _ c.say_source_rule.result
     (to_z-of_z w64 c.in-SourceRule.found found) (to_z-of_z w64 c.in-SourceRule.needed needed) says)
+
+pub returns-in-SourceShape : goal.returns-in-SourceShape
+returns-in-SourceShape g c = rw c.in-SourceShape.is (rw c.shape_word.ensures at c.say_source_shape.ensures)

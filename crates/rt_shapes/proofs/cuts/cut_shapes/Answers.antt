@@ -2,8 +2,8 @@ use Rattle.std.proofs.Common.{map}
 use Rattle.std.proofs.lemmas.Result.{IfOk-weaker, IfErr-weaker}
 use Rattle.rt_layout.specs.Covering.{MaskCovers}
 use Rattle.rt_strips.specs.Placed.{placed}
-use Rattle.rt_shapes.specs.Shapes.{HasSoundCuts, IsCutErrorOf}
-use Rattle.rt_shapes.specs.Lowers.{AreLowersOf}
+use Rattle.rt_view.specs.Shapes.{HasSoundCuts, IsCutErrorOf}
+use Rattle.rt_view.specs.Lowers.{AreLowersOf}
 use Rattle.rt_shapes.specs.Sides.{AllHaveLower, IsLooseRefusal}
 use Rattle.rt_shapes.proofs.Found.{are_strips, are_of_masks, bent_handed, bare_handed, loose_refused, cuts_sound, lowers_are}
 use Rattle.rt_shapes.proofs.cuts.cut_shapes.Goals as goal

@@ -2,7 +2,7 @@ use Rattle.std.proofs.Common.{map}
 use Rattle.std.specs.List.{AllWithin}
 use Rattle.rt_layout.specs.declared.layout.Label.{Label}
 use Rattle.rt_strips.specs.Placed.{placed}
-use Rattle.rt_shapes.specs.Shapes.{Touches}
+use Rattle.rt_view.specs.Shapes.{Touches}
 use Rattle.rt_shapes.specs.Cutting.{cells_by}
 use Rattle.rt_shapes.proofs.labels.check_touched.Given as goal
 

@@ -1,4 +1,4 @@
-use Rattle.rt_nets.specs.Job.{strips_of}
+use Rattle.rt_view.specs.Job.{strips_of}
 use Rattle.rt_vtemplate.proofs.OfKinds.{clear_added, clear_none}
 use Rattle.rt_vtemplate.proofs.clear.add_of_clear.Goals as goal
 

@@ -1,4 +1,4 @@
-use Rattle.rt_nets.specs.Job.{strips_of}
+use Rattle.rt_view.specs.Job.{strips_of}
 use Rattle.rt_vtemplate.proofs.Pairs.{pair_more}
 use Rattle.rt_vtemplate.proofs.clear.add_of_pairs.Goals as goal
 

@@ -1,4 +1,4 @@
-use Rattle.rt_nets.specs.Job.{strips_of}
+use Rattle.rt_view.specs.Job.{strips_of}
 use Rattle.rt_vtemplate.specs.Added.{AreAdded, IsOfFirst}
 use Rattle.rt_vtemplate.specs.Steps.{IsOfPairAt}
 use Rattle.rt_vtemplate.proofs.clear.add_of_pairs.Given as goal

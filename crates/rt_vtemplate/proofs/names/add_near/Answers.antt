@@ -1,6 +1,6 @@
 use Rattle.std.proofs.Common.{List, ℕ, All, sym, subst}
 use Rattle.rt_rows.specs.Places.{places}
-use Rattle.rt_nets.specs.Job.{strips_of}
+use Rattle.rt_view.specs.Job.{strips_of}
 use Rattle.rt_vtemplate.specs.Steps.{ArePaired, ListsNearStrips}
 use Rattle.rt_vtemplate.proofs.Upwards.{job_strips}
 use Rattle.rt_vtemplate.proofs.Pairs.{are_paired, pairs_tell}

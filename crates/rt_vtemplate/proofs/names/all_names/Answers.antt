@@ -4,5 +4,5 @@ use Rattle.rt_vtemplate.proofs.names.all_names.Goals as goal
 
 pub returns : goal.returns
 returns c =
-    upwards_hold c.args.job.now (places c.args.columns.now) (job_strips c.args.job.now c.requires.job) _ _ _
-    c.in_ok-names.ensures c.in_ok-add_of_source.ensures c.in_ok-add_near.ensures
+    upwards_hold c.args.job.now (places c.args.columns.now) (job_strips c.args.job.now c.requires.job) _ _ _ _
+    c.in_ok-names.ensures c.in_ok-add_of_source.ensures c.in_ok-add_near.ensures c.in_ok-add_between.ensures

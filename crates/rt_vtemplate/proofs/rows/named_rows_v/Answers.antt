@@ -7,8 +7,8 @@ use Rattle.rt_vtemplate.specs.Listing.{ListsRows, with_row, IsKnown}
 use Rattle.rt_vtemplate.proofs.Listed.{all_known, rows_listed}
 use Rattle.rt_vtemplate.proofs.rows.named_rows_v.Goals as goal
 
-pub with_rows-requires : goal.with_rows-requires
-with_rows-requires c =
+pub with_rows-requires-clause-known : goal.with_rows-requires-clause-known
+with_rows-requires-clause-known c =
     subst (λ (l : List Name). All (IsKnown c.args.job.now) l) (sym c.as_slice.ensures)
     (all_known c.args.job.now (places c.args.columns.now) c.in_ok-names.names c.in_ok-names.ensures.each)
 

@@ -1,6 +1,6 @@
 use Rattle.std.proofs.Common.{rules}
 use Rattle.rt_rows.specs.Places.{places}
-use Rattle.rt_vtemplate.proofs.Told.{lo_told, hi_told, zero_told, top_told, tall_told, on_told, under_told, gap_told, run_told, none_told}
+use Rattle.rt_vtemplate.proofs.Told.{lo_told, hi_told, zero_told, top_told, tall_told, on_told, under_told, gap_told, run_told, size_told, off_told, inb_told, int_told, none_told}
 use Rattle.rt_vtemplate.proofs.single.has_name.Goals as goal
 
 pub returns-in-Lo : goal.returns-in-Lo
@@ -31,6 +31,18 @@ returns-in-Gap c = gap_told c.args.job.now (places c.args.columns.now) c.args.na
 
 pub returns-in-Run : goal.returns-in-Run
 returns-in-Run c = run_told c.args.job.now (places c.args.columns.now) c.args.name.now c.in-Run.i c.in-Run.j c.has_run.result c.in-Run.is c.has_run.ensures
+
+pub returns-in-Size : goal.returns-in-Size
+returns-in-Size c = size_told c.args.job.now (places c.args.columns.now) c.args.name.now c.in-Size.i c.is_cut_strip.result c.in-Size.is c.is_cut_strip.ensures
+
+pub returns-in-Off : goal.returns-in-Off
+returns-in-Off c = off_told c.args.job.now (places c.args.columns.now) c.args.name.now c.in-Off.q c.in-Off.i c.in-Off.j c.is_off_above.result c.in-Off.is c.is_off_above.ensures
+
+pub returns-in-Inb : goal.returns-in-Inb
+returns-in-Inb c = inb_told c.args.job.now (places c.args.columns.now) c.args.name.now c.in-Inb.q c.in-Inb.i c.in-Inb.h c.is_lowest_host.result c.in-Inb.is c.is_lowest_host.ensures
+
+pub returns-in-Int : goal.returns-in-Int
+returns-in-Int c = int_told c.args.job.now (places c.args.columns.now) c.args.name.now c.in-Int.q c.in-Int.i c.in-Int.h c.is_highest_host.result c.in-Int.is c.is_highest_host.ensures
 
 pub returns-in_default : goal.returns-in_default
 returns-in_default c = none_told c.args.job.now (places c.args.columns.now) c.args.name.now (search rules)

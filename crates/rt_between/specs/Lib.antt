@@ -1,0 +1,4 @@
+pub mod Reaches
+pub mod Pairing
+pub mod Ends
+pub mod Offers

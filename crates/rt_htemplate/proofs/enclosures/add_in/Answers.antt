@@ -1,0 +1,11 @@
+use Rattle.std.proofs.Common.{List, ◌+◌, sym, subst}
+use Rattle.rt_rows.specs.declared.name.Name.{Name}
+use Rattle.rt_between.specs.Offers.{AreOffered}
+use Rattle.rt_htemplate.specs.Candidates.{names_in_at}
+use Rattle.rt_between.proofs.Growing.{more_offered}
+use Rattle.rt_htemplate.proofs.enclosures.add_in.Goals as goal
+
+pub loop-pair-preserved : goal.loop-pair-preserved
+loop-pair-preserved c =
+    subst (λ (names : List Name). AreOffered (names_in_at c.args.q c.args.pairs.now) (c.loop-pair.pair-index + 1) c.args.names.now names) (sym c.in_ok-add_names.ensures)
+    (more_offered (names_in_at c.args.q c.args.pairs.now) c.loop-pair.pair-index c.args.names.now c.loop-pair.names c.loop-pair.invariant)

@@ -1,0 +1,2 @@
+-- what is promised of the nets of drawings
+pub mod Laws

@@ -1,0 +1,7 @@
+use Rattle.rt_rows.specs.Places.{places}
+use Rattle.rt_between.proofs.Growing.{more_rules}
+use Rattle.rt_vtemplate.specs.Between.{IsOfDistance}
+use Rattle.rt_vtemplate.proofs.between.add_of_distances.Goals as goal
+
+pub loop-q-preserved : goal.loop-q-preserved
+loop-q-preserved c = more_rules (IsOfDistance c.args.job.now (places c.args.columns.now)) c.loop-q.q c.args.names.now c.loop-q.names _ c.loop-q.invariant c.in_ok-add_of_distance.ensures
