@@ -9,7 +9,7 @@ use Rattle.gds_stream.specs.declared.library.Element.{Element}
 use Rattle.gds_stream.specs.declared.library.Element.TheVariants.{Boundary, Path, Sref, Aref, Label, BoxShape}
 use Rattle.gds_stream.specs.declared.library.Library.{Library}
 use Rattle.gds_stream_laws.proofs.LawfulValues.{stream_is_lawful}
-use Rattle.gds_stream_laws.specs.Lawful.{IsPolygon, HasPoints}
+use Rattle.gds_stream_laws.specs.Lawful.{IsPolygon, IsLawfulElement}
 
 -- the entry behind so many others
 first_behind : (n : ℕ) (points : List Point) (p : Point) (rest : List Point) → drop n points ≡ p ∷ rest → slice_get points n ≡ Some p
@@ -22,7 +22,7 @@ closed : (points : List Point) → IsPolygon points → IsClosed points
 closed [] polygon = let enough = polygon.enough in absurd (omega (arith, enough))
 closed (p ∷ points) polygon = first_behind (length (p ∷ points) - 1) (p ∷ points) p [] (sym polygon.closed)
 
-drawable : (e : Element) → HasPoints e → IsDrawable e
+drawable : (e : Element) → IsLawfulElement e → IsDrawable e
 drawable (Boundary offset layer datatype points) h = closed points h
 drawable (Path offset layer datatype pathtype width points) h = h
 drawable (Sref offset name place at) h = tt

@@ -3,4 +3,7 @@ pub mod Faults
 pub mod Refusals
 pub mod FaultsOne
 pub mod RefusalsOne
+pub mod Marks
 pub mod NearLabels
+pub mod Named
+pub mod Labels

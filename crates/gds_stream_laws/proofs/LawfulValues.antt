@@ -3,14 +3,14 @@ use Rattle.std.proofs.Common.{◌≡◌, ◌≢◌, ℕ, zero, suc, ◌<◌, ◌
 use Rattle.std.specs.Prelude.{AllPairs, unwrap_or}
 use Rattle.std.specs.List.{concat, AllByRecursion}
 use Rattle.std.specs.Option.{option_to_list}
-use Rattle.std.proofs.lemmas.Bool.{cond-true, OnTrue_at, both_ways, false_from_ne_true, eqb-true, eq-eqb}
+use Rattle.std.proofs.lemmas.Bool.{cond-true, cond-false, cases_Bool, OnTrue_at, both_ways, false_from_ne_true, eqb-true, eq-eqb}
 use Rattle.std.proofs.lemmas.List.{map-append, get_or-map, length-map}
 use Rattle.std.proofs.lemmas.List.Elements.{All-nil, All-append, All-from_recursion, filter_map-append}
 use Rattle.gds_records.specs.declared.types.TheConstants.{HEADER, BGNLIB, LIBNAME, UNITS, ENDLIB, BGNSTR, STRNAME, ENDSTR, ENDEL, BOUNDARY, PATH, SREF, AREF, TEXT, NODE, BOX, XY, SNAME, LAYER, DATATYPE, WIDTH, COLROW, TEXTTYPE, PRESENTATION, STRING, PATHTYPE, NODETYPE, BOXTYPE, BGNEXTN, ENDEXTN}
 use Rattle.gds_records.specs.Records.{Item, Framed}
 use Rattle.gds_grammar.specs.Grammar.{Grammar, ◌‣◌, many, type, maybe, In}
 use Rattle.gds_grammar.specs.Format.{skipped, head, turn, boundary, path, sref, aref, label, node, box, property, element, structure, stream}
-use Rattle.gds_grammar.specs.Conditions.{is_in, starts, trim, without_zero, name_in, names_in, Counted, InContext, AreCountedPoints, AreStream}
+use Rattle.gds_grammar.specs.Conditions.{is_in, starts, kind_after, trim, without_zero, name_in, names_in, Counted, InContext, AreCountedPoints, AreStream}
 use Rattle.gds_grammar.proofs.Following.{codes}
 use Rattle.gds_grammar.proofs.GrammarLaws.{is_in_left}
 use Rattle.gds_grammar.proofs.Last.{types}
@@ -19,12 +19,38 @@ use Rattle.gds_stream.specs.declared.library.Structure.{Structure}
 use Rattle.gds_stream.specs.declared.library.Library.{Library}
 use Rattle.gds_stream.specs.Contents.{held, data_at, element_of, library_of, Stream}
 use Rattle.gds_stream_laws.specs.Values.{AreOf, closing_types, AreElements, AreStructures}
-use Rattle.gds_stream_laws.specs.Lawful.{HasPoints, IsLawfulStructure, IsLawful}
+use Rattle.gds_stream_laws.specs.Lawful.{IsLawfulElement, IsLawfulStructure, IsLawful}
 use Rattle.gds_stream_laws.proofs.Held.{one_of_type, are_of_both, are_of_left, are_of_right}
 use Rattle.gds_stream_laws.proofs.Words.{types_of}
 use Rattle.gds_stream_laws.proofs.PieceValues.{kinds, apart, kind_gives, closes_element, no_elements, more_elements, structure_gives, no_structures, more_structures, library_gives}
 use Rattle.gds_stream_laws.proofs.PointCounts.{polygon, two_or_more, three_points}
 use Rattle.gds_stream_laws.proofs.Contexts.{split, no_items, both, Single, single, is_one, always, always_has, context_left, context_right, Owes, owes}
+
+-- ---- data that fit a record
+
+one_more_byte : (b : ℕ) (bytes : List ℕ) → length (without_zero b bytes) ≤ suc (length bytes)
+one_more_byte zero [] = omega arith
+one_more_byte (suc b) [] = omega arith
+one_more_byte zero (c ∷ bytes) = omega arith
+one_more_byte (suc b) (c ∷ bytes) = omega arith
+
+trim_short : (bytes : List ℕ) → length (trim bytes) ≤ length bytes
+trim_short [] = omega arith
+trim_short (b ∷ bytes) = let shorter = trim_short bytes in let one = one_more_byte b (trim bytes) in omega (arith, shorter, one)
+
+-- the data of a type fit a record
+data_short : (code : ℕ) (kind : Option ℕ) (items : List Item) → InContext kind items → length (data_at code items) ≤ 65530
+data_short code kind [] each = omega arith
+data_short code kind (i ∷ items) each =
+    let Short : Option (List ℕ) → Type 0 = λ o. length (unwrap_or o []) ≤ 65530 in
+    elim (cases_Bool (eqb i.code code)) [
+      | inl same ↦ subst Short (sym (cond-true (eqb i.code code) (Some i.body) (held code items) same)) each.0.short
+      | inr differs ↦ subst Short (sym (cond-false (eqb i.code code) (Some i.body) (held code items) differs)) (data_short code (kind_after kind i) items each.3)
+    ]
+
+-- and so does the text that they are
+text_short : (items : List Item) → length (data_at STRING items) ≤ 65530 → length (trim (data_at STRING items)) ≤ 65530
+text_short items short = omega (arith, trim_short (data_at STRING items), short)
 
 -- ---- elements
 
@@ -35,10 +61,11 @@ counted_at code items body is owes_it =
     subst Points (sym (ap (λ (o : Option (List ℕ)). unwrap_or o []) is))
     (subst Points owes_it.is_body (OnTrue_at (ap (λ (c : ℕ). eqb c XY) owes_it.of_type) owes_it.counted.points))
 
--- an element of one kind has its points, if they are enough where they are counted
+-- an element of one kind is lawful, if it is where its points are counted and its text fits a record
 of_kind : (code : ℕ) (g : Grammar) (k : Option ℕ) (shape behind : List Item) → is_in starts code ≡ true → always XY g ≡ true → apart (types g ++ closing_types) starts ≡ true
-    → ((at form : ℕ) (body : List ℕ) (items : List Item) → AreCountedPoints (Some code) (data_at XY items) → IfSome (element_of (record { at = at; code = code; form = form; body = body } ∷ items)) HasPoints)
-    → In (type code ‣ g) (codes shape) → InContext k (shape ++ behind) → AreOf closing_types behind → IfSome (element_of (shape ++ behind)) HasPoints
+    → ((at form : ℕ) (body : List ℕ) (items : List Item) → AreCountedPoints (Some code) (data_at XY items) → length (data_at STRING items) ≤ 65530
+    → IfSome (element_of (record { at = at; code = code; form = form; body = body } ∷ items)) IsLawfulElement)
+    → In (type code ‣ g) (codes shape) → InContext k (shape ++ behind) → AreOf closing_types behind → IfSome (element_of (shape ++ behind)) IsLawfulElement
 of_kind code g k shape behind begins has_xy none enough word each closing =
     let parts = both (type code) g shape word in
     let start = single code parts.first parts.is_first in
@@ -54,35 +81,36 @@ of_kind code g k shape behind begins has_xy none enough word each closing =
     let xy : is_in (codes (rest ++ behind)) XY ≡ true =
     ap (λ (l : List ℕ). is_in l XY) (map-append (λ (j : Item). j.code) rest behind) ∙ is_in_left (codes rest) (codes behind) XY (always_has XY g (codes rest) has_xy parts.is_second) in
     let owed = owes XY (Some code) (types g ++ closing_types) (rest ++ behind) none these inner xy in
-    let Fine : List Item → Type 0 = λ l. IfSome (element_of l) HasPoints in
-    let at_code : Fine (record i { code = code } ∷ (rest ++ behind)) = enough i.at i.form i.body (rest ++ behind) (counted_at code (rest ++ behind) owed.0 owed.1 owed.2) in
+    let Fine : List Item → Type 0 = λ l. IfSome (element_of l) IsLawfulElement in
+    let at_code : Fine (record i { code = code } ∷ (rest ++ behind)) = enough i.at i.form i.body (rest ++ behind) (counted_at code (rest ++ behind) owed.0 owed.1 owed.2)
+    (data_short STRING (Some code) (rest ++ behind) inner) in
     subst Fine (sym lies) (subst (λ (n : ℕ). Fine (record i { code = n } ∷ (rest ++ behind))) (sym start.of_type) at_code)
 
--- an element has its points
-kind_lawful : (k : Option ℕ) (shape behind : List Item) → In kinds (codes shape) → InContext k (shape ++ behind) → AreOf closing_types behind → IfSome (element_of (shape ++ behind)) HasPoints
+-- an element is lawful
+kind_lawful : (k : Option ℕ) (shape behind : List Item) → In kinds (codes shape) → InContext k (shape ++ behind) → AreOf closing_types behind → IfSome (element_of (shape ++ behind)) IsLawfulElement
 unfolding box node label aref sref path boundary turn head
-kind_lawful k shape behind (inl word) = of_kind BOUNDARY (head ‣ type LAYER ‣ type DATATYPE ‣ type XY) k shape behind refl refl refl (λ at form body items counted. polygon (data_at XY items) counted) word
+kind_lawful k shape behind (inl word) = of_kind BOUNDARY (head ‣ type LAYER ‣ type DATATYPE ‣ type XY) k shape behind refl refl refl (λ at form body items counted text. polygon (data_at XY items) counted) word
 kind_lawful k shape behind (inr (inl word)) =
     of_kind PATH (head ‣ type LAYER ‣ type DATATYPE ‣ maybe (type PATHTYPE) ‣ maybe (type WIDTH) ‣ maybe (type BGNEXTN) ‣ maybe (type ENDEXTN) ‣ type XY) k shape behind refl refl refl
-    (λ at form body items counted. two_or_more (data_at XY items) counted) word
-kind_lawful k shape behind (inr (inr (inl word))) = of_kind SREF (head ‣ type SNAME ‣ maybe turn ‣ type XY) k shape behind refl refl refl (λ at form body items counted. tt) word
+    (λ at form body items counted text. two_or_more (data_at XY items) counted) word
+kind_lawful k shape behind (inr (inr (inl word))) = of_kind SREF (head ‣ type SNAME ‣ maybe turn ‣ type XY) k shape behind refl refl refl (λ at form body items counted text. tt) word
 kind_lawful k shape behind (inr (inr (inr (inl word)))) =
-    of_kind AREF (head ‣ type SNAME ‣ maybe turn ‣ type COLROW ‣ type XY) k shape behind refl refl refl (λ at form body items counted. three_points (data_at XY items) counted) word
+    of_kind AREF (head ‣ type SNAME ‣ maybe turn ‣ type COLROW ‣ type XY) k shape behind refl refl refl (λ at form body items counted text. three_points (data_at XY items) counted) word
 kind_lawful k shape behind (inr (inr (inr (inr (inl word))))) =
     of_kind TEXT (head ‣ type LAYER ‣ type TEXTTYPE ‣ maybe (type PRESENTATION) ‣ maybe (type PATHTYPE) ‣ maybe (type WIDTH) ‣ maybe turn ‣ type XY ‣ type STRING) k shape behind refl refl refl
-    (λ at form body items counted. tt) word
-kind_lawful k shape behind (inr (inr (inr (inr (inr (inl word)))))) = of_kind NODE (head ‣ type LAYER ‣ type NODETYPE ‣ type XY) k shape behind refl refl refl (λ at form body items counted. tt) word
-kind_lawful k shape behind (inr (inr (inr (inr (inr (inr word)))))) = of_kind BOX (head ‣ type LAYER ‣ type BOXTYPE ‣ type XY) k shape behind refl refl refl (λ at form body items counted. tt) word
+    (λ at form body items counted text. text_short items text) word
+kind_lawful k shape behind (inr (inr (inr (inr (inr (inl word)))))) = of_kind NODE (head ‣ type LAYER ‣ type NODETYPE ‣ type XY) k shape behind refl refl refl (λ at form body items counted text. tt) word
+kind_lawful k shape behind (inr (inr (inr (inr (inr (inr word)))))) = of_kind BOX (head ‣ type LAYER ‣ type BOXTYPE ‣ type XY) k shape behind refl refl refl (λ at form body items counted text. tt) word
 
--- records that give elements that have their points
+-- records that give lawful elements
 record HasElements (items : List Item) : Type 0 where
   elements : List Element
   are : AreElements items elements
-  lawful : All HasPoints elements
+  lawful : All IsLawfulElement elements
 
-listed_points : (found : Option Element) → IfSome found HasPoints → All HasPoints (option_to_list found)
-listed_points None points = All-nil HasPoints
-listed_points (Some x) points = All-from_recursion HasPoints (x ∷ []) (points, tt)
+listed_lawful : (found : Option Element) → IfSome found IsLawfulElement → All IsLawfulElement (option_to_list found)
+listed_lawful None lawful = All-nil IsLawfulElement
+listed_lawful (Some x) lawful = All-from_recursion IsLawfulElement (x ∷ []) (lawful, tt)
 
 one_element : (k : Option ℕ) (items : List Item) → In element (codes items) → InContext k items → HasElements items
 unfolding element
@@ -95,11 +123,11 @@ one_element k items word each =
     let behind : List Item = tail.first ++ e ∷ [] in
     let lies : items ≡ parts.first ++ behind = parts.whole ∙ ap (λ (l : List Item). parts.first ++ l) (tail.whole ∙ ap (λ (l : List Item). tail.first ++ l) is_end.1) in
     let found : Option Element = element_of (parts.first ++ behind) in
-    let points : IfSome found HasPoints = kind_lawful k parts.first behind parts.is_first (subst (InContext k) lies each) (closes_element e tail.first refl tail.is_first) in
+    let is_lawful : IfSome found IsLawfulElement = kind_lawful k parts.first behind parts.is_first (subst (InContext k) lies each) (closes_element e tail.first refl tail.is_first) in
     record {
       elements = option_to_list found;
       are = subst (λ (l : List Item). AreElements l (option_to_list found)) (sym lies) (λ more. kind_gives e.at e.form e.body found parts.first tail.first more parts.is_first tail.is_first refl);
-      lawful = listed_points found points;
+      lawful = listed_lawful found is_lawful;
     }
 
 -- ---- the same of each of many words
@@ -119,25 +147,15 @@ many_hold a Holds none more one (u ∷ us) k items words e each =
 
 many_elements : (k : Option ℕ) (items : List Item) → In (many element) (codes items) → InContext k items → HasElements items
 many_elements k items words each =
-    many_hold element HasElements (record { elements = []; are = no_elements; lawful = All-nil HasPoints })
+    many_hold element HasElements (record { elements = []; are = no_elements; lawful = All-nil IsLawfulElement })
     (λ first second these those. record {
       elements = these.elements ++ those.elements;
       are = more_elements first second these.elements those.elements these.are those.are;
-      lawful = All-append HasPoints these.elements those.elements these.lawful those.lawful;
+      lawful = All-append IsLawfulElement these.elements those.elements these.lawful those.lawful;
     })
     one_element words.0 k items words.1 words.2 each
 
 -- ---- names
-
-one_more_byte : (b : ℕ) (bytes : List ℕ) → length (without_zero b bytes) ≤ suc (length bytes)
-one_more_byte zero [] = omega arith
-one_more_byte (suc b) [] = omega arith
-one_more_byte zero (c ∷ bytes) = omega arith
-one_more_byte (suc b) (c ∷ bytes) = omega arith
-
-trim_short : (bytes : List ℕ) → length (trim bytes) ≤ length bytes
-trim_short [] = omega arith
-trim_short (b ∷ bytes) = let shorter = trim_short bytes in let one = one_more_byte b (trim bytes) in omega (arith, shorter, one)
 
 -- records without names before others
 names_behind : (ts : List ℕ) (items more : List Item) → is_in ts STRNAME ≡ false → AreOf ts items → names_in (items ++ more) ≡ names_in more

@@ -11,20 +11,20 @@ pub record IsPolygon (points : List Point) : Type 0 where
   pub enough : 4 ≤ length points
   pub closed : take 1 points ≡ drop (length points - 1) points
 
--- an element has as many points as its kind wants
-abbrev pub HasPoints : Element → Type 0
-HasPoints (Boundary offset layer datatype points) = IsPolygon points
-HasPoints (Path offset layer datatype pathtype width points) = 2 ≤ length points
-HasPoints (Sref offset name place at) = Unit {0}
-HasPoints (Aref offset name place columns rows points) = length points ≡ 3
-HasPoints (Label offset layer texttype at text) = Unit {0}
-HasPoints (BoxShape offset layer boxtype) = Unit {0}
+-- an element is lawful: it has as many points as its kind wants, and a text fits a record
+abbrev pub IsLawfulElement : Element → Type 0
+IsLawfulElement (Boundary offset layer datatype points) = IsPolygon points
+IsLawfulElement (Path offset layer datatype pathtype width points) = 2 ≤ length points
+IsLawfulElement (Sref offset name place at) = Unit {0}
+IsLawfulElement (Aref offset name place columns rows points) = length points ≡ 3
+IsLawfulElement (Label offset layer texttype at text) = length text ≤ 65530
+IsLawfulElement (BoxShape offset layer boxtype) = Unit {0}
 
--- a structure's name isn't empty and fits a record, and its elements have their points
+-- a structure's name isn't empty and fits a record, and its elements are lawful
 pub record IsLawfulStructure (structure : Structure) : Type 0 where
   pub named : 0 < length structure.name
   pub short : length structure.name ≤ 65530
-  pub elements : All HasPoints structure.elements
+  pub elements : All IsLawfulElement structure.elements
 
 -- the library's name fits a record, its structures are lawful, and no two have one name
 pub record IsLawful (library : Library) : Type 0 where

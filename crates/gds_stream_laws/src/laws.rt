@@ -7,7 +7,7 @@ ghost use Rattle.gds_stream.specs.Written.{written, FitsWriter, OneCell};
 ghost use Rattle.gds_stream_laws.specs.Lawful.{IsLawful};
 
 /// Law: every library that a stream holds is lawful: names that fit a record, structures of different names that aren't
-/// empty, and elements with as many points as their kinds want. (GDSII Release 6.)
+/// empty, elements with as many points as their kinds want, and texts that fit a record. (GDSII Release 6.)
 pub fn streams_are_lawful()
     ensures { (bytes : List ℕ) (library : Library) → Stream bytes library → IsLawful library }
 {}

@@ -120,14 +120,3 @@ one_note_more target strips at labels notes i label note h is before next = reco
 pub all_notes : (target : Tech) (strips : List Placed) (at : Var → ℤ) (labels : List Label) (notes : List Note) (i : ℕ) → i ≡ length labels
     → AreNotesOf target strips at (take i labels) notes → AreNotesOf target strips at labels notes
 all_notes target strips at labels notes i e h = subst (λ ls. AreNotesOf target strips at ls notes) (take_all i labels (omega arith)) h
-
--- a cell without labels has no text
-pub without_labels : (target : Tech) (strips : List Placed) (at : Var → ℤ) (labels : List Label) (notes : List Note) → labels ≡ []
-    → (are : AreNotesOf target strips at labels notes) → (are.drawn ≡ []) × (notes ≡ [])
-without_labels target strips at labels notes none are =
-    let empty = no_labels are.drawn (subst (λ ls. AllZip (IsDrawnLabel target.grid strips at) ls are.drawn) none are.are_drawn) in
-    (empty, are.are ∙ ap (map (note_of target)) empty)
-  where
-    no_labels : (drawn : List Label) → AllZip (IsDrawnLabel target.grid strips at) [] drawn → drawn ≡ []
-    no_labels [] h = refl
-    no_labels (l ∷ ls) h = absurd h

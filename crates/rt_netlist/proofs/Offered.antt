@@ -24,7 +24,7 @@ one_list_of_numbers tech layout numbers others one two =
     one.numbered two.numbered i (subst (λ n. i < n) one.counted below))
 
 -- cells that are the same on all masks
-same_cells : (tech : Tech) (P Q : ℕ → ℤ → ℤ → Type 0) → ((m : ℕ) → AreAlike (P m) (Q m)) → AreToldAlike tech tech P Q
+pub same_cells : (tech : Tech) (P Q : ℕ → ℤ → ℤ → Type 0) → ((m : ℕ) → AreAlike (P m) (Q m)) → AreToldAlike tech tech P Q
 same_cells tech P Q alike = record {
   metal = λ m is. is;
   upper = λ m u is. is;
@@ -35,7 +35,8 @@ same_cells tech P Q alike = record {
   lowers = λ m l is. alike l;
 }
 
-extracts_alike : (tech : Tech) (P Q : ℕ → ℤ → ℤ → Type 0) → ((m : ℕ) → AreAlike (P m) (Q m)) → (labels : List Label) (numbers : List ℕ)
+-- labels on cells that are the same on all masks have the same numbers
+pub extracts_alike : (tech : Tech) (P Q : ℕ → ℤ → ℤ → Type 0) → ((m : ℕ) → AreAlike (P m) (Q m)) → (labels : List Label) (numbers : List ℕ)
     → Extracts tech P labels numbers → Extracts tech Q labels numbers
 extracts_alike tech P Q alike labels numbers =
     extracts_by tech tech P Q labels labels refl

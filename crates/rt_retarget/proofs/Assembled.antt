@@ -1,5 +1,5 @@
 -- From the parts of a run to the stages of the files, and to what an answer says of them.
-use Rattle.std.proofs.Common.{◌≡◌, ◌≢◌, ℕ, ◌≤◌, ℤ, pos, List, [], None, All, length, map, inr, sym, ◌∙◌, arith}
+use Rattle.std.proofs.Common.{◌≡◌, ℕ, ◌≤◌, ℤ, pos, List, [], None, All, length, map, inr, arith}
 use Rattle.std.proofs.lemmas.List.{length-map}
 use Rattle.gds_flat.specs.declared.error.FlatError.{FlatError}
 use Rattle.gds_flat.specs.declared.error.FlatError.TheVariants as flat
@@ -40,12 +40,12 @@ use Rattle.rt_tech.specs.declared.table.Which.{Which}
 use Rattle.rt_tech.specs.declared.table.Which.TheVariants.{Source, Target}
 use Rattle.rt_tech.proofs.Measured.{measured}
 use Rattle.rt_retarget.specs.declared.answer.Fault.{Fault}
-use Rattle.rt_retarget.specs.declared.answer.Fault.TheVariants.{NotBuilt, SourceShape, SourceRule}
+use Rattle.rt_retarget.specs.declared.answer.Fault.TheVariants.{SourceShape, SourceRule}
 use Rattle.rt_retarget.specs.declared.inputs.Inputs.{Inputs}
 use Rattle.rt_retarget.specs.declared.source.TheConstants.{STRIP_LIMIT}
 use Rattle.rt_retarget.specs.Files.{Given}
-use Rattle.rt_retarget.specs.Stages.{AreRead, IsParsed, IsLaid, IsStripped, IsShaped, IsSound, IsTaken, IsWished}
-use Rattle.rt_retarget.specs.Jobs.{IsUsable, AreMatched, IsFlatRefusal, IsTableRefusal, IsFaultOfParsed, IsFaultOfLaid, IsFaultOfTaken, IsFaultOfView, IsSoundView, IsCheckedCell, IsReadSource}
+use Rattle.rt_retarget.specs.Stages.{AreRead, IsParsed, IsLaid, IsStripped, IsShaped, IsSound, IsWished}
+use Rattle.rt_retarget.specs.Jobs.{IsUsable, AreMatched, IsFlatRefusal, IsTableRefusal, IsFaultOfParsed, IsFaultOfLaid, IsFaultOfSound, IsFaultOfView, IsSoundView, IsCheckedCell, IsReadSource}
 use Rattle.rt_retarget.proofs.Cells.{IsCellOf, reached_cell}
 use Rattle.rt_retarget.proofs.Stripped.{covered_alike}
 
@@ -85,13 +85,13 @@ flat_fault inputs library flat.OutOfMemory fault refused e files parsed = rw e t
 
 -- a refusal of stray sizes is one of the files
 pub stray_fault : (inputs : Inputs) (error : TableError) (fault : Fault) → RefusesSizes (wishes_fault inputs.asked []) error → IsTableRefusal Target error fault
-    → IsFaultOfTaken inputs fault
-stray_fault inputs (table.BadSizes key cause) fault refused e files library layout strips taken =
-    rw e (inr (record { inputs = inputs; library = library; layout = layout; strips = strips; taken = taken; refused = refused }))
-stray_fault inputs table.OutOfMemory fault refused e files library layout strips taken = rw e tt
-stray_fault inputs table.BadToml fault refused e files library layout strips taken = absurd refused
-stray_fault inputs (table.BadTable key cause) fault refused e files library layout strips taken = absurd refused
-stray_fault inputs (table.TablesDiffer key) fault refused e files library layout strips taken = absurd refused
+    → IsFaultOfSound inputs fault
+stray_fault inputs (table.BadSizes key cause) fault refused e files library layout strips sound =
+    rw e (inr (record { inputs = inputs; library = library; layout = layout; strips = strips; sound = sound; refused = refused }))
+stray_fault inputs table.OutOfMemory fault refused e files library layout strips sound = rw e tt
+stray_fault inputs table.BadToml fault refused e files library layout strips sound = absurd refused
+stray_fault inputs (table.BadTable key cause) fault refused e files library layout strips sound = absurd refused
+stray_fault inputs (table.TablesDiffer key) fault refused e files library layout strips sound = absurd refused
 
 module _ (inputs : Inputs) (pairs : HasMeasuredPairs inputs.tables.source) (layout : Layout) (view : View) (is : IsViewOf layout inputs.tables.source view) where
   -- a view that breaks no rule is of a layout that breaks none
@@ -155,39 +155,16 @@ pub sound : (files : Given) (inputs : Inputs) (library : Library) (layout : Layo
 sound files inputs library layout view laid is =
     record { shaped = shaped files inputs library layout view laid is.is_view is.few; clean = is.clean }
 
--- a label is a refusal of the files
-pub label_fault : (inputs : Inputs) (library : Library) (layout : Layout) (view : View)
-    → IsFlattened library.structures inputs.asked.cell inputs.tables.source layout → IsSoundView inputs layout view
-    → view.labels ≢ [] → IsFaultOfParsed inputs library NotBuilt
-label_fault inputs library layout view flattened is some files parsed = inr (record {
-  inputs = inputs;
-  library = library;
-  layout = layout;
-  strips = map placed view.strips.list;
-  sound = sound files inputs library layout view (record { parsed = parsed; flattened = flattened }) is;
-  some_label = λ none. some (is.is_view.labels ∙ none);
-})
-
--- a layout without labels is taken
-pub taken : (files : Given) (inputs : Inputs) (library : Library) (layout : Layout) (view : View) → IsParsed files inputs library
-    → IsFlattened library.structures inputs.asked.cell inputs.tables.source layout → IsSoundView inputs layout view
-    → view.labels ≡ [] → IsTaken files inputs library layout (map placed view.strips.list)
-taken files inputs library layout view parsed flattened is none = record {
-  sound = sound files inputs library layout view (record { parsed = parsed; flattened = flattened }) is;
-  no_labels = sym is.is_view.labels ∙ none;
-}
-
 -- the cell that is checked
 pub checked : (inputs : Inputs) (library : Library) (layout : Layout) (view : View)
     → IsFlattened library.structures inputs.asked.cell inputs.tables.source layout → IsSoundView inputs layout view
-    → view.labels ≡ [] → wishes_fault inputs.asked [] ≡ None → IsCheckedCell inputs library view
-checked inputs library layout view flattened is no_labels none = record {
+    → wishes_fault inputs.asked [] ≡ None → IsCheckedCell inputs library view
+checked inputs library layout view flattened is none = record {
   layout = layout;
   flattened = flattened;
   is_view = is.is_view;
   few = is.few;
   clean = is.clean;
-  no_labels = sym is.is_view.labels ∙ no_labels;
   no_strays = none;
 }
 
@@ -195,13 +172,10 @@ checked inputs library layout view flattened is no_labels none = record {
 pub wished : (files : Given) (inputs : Inputs) (library : Library) (view : View) → AreRead files inputs → (is : IsReadSource files.source inputs library view)
     → IsWished files inputs library is.cell.layout (map placed view.strips.list)
 wished files inputs library view read is = record {
-  taken = record {
-    sound = record {
-      shaped = shaped files inputs library is.cell.layout view
-          (record { parsed = record { read = read; built = is.built; stream = is.stream }; flattened = is.cell.flattened }) is.cell.is_view is.cell.few;
-      clean = is.cell.clean;
-    };
-    no_labels = is.cell.no_labels;
+  sound = record {
+    shaped = shaped files inputs library is.cell.layout view
+        (record { parsed = record { read = read; built = is.built; stream = is.stream }; flattened = is.cell.flattened }) is.cell.is_view is.cell.few;
+    clean = is.cell.clean;
   };
   no_strays = is.cell.no_strays;
 }

@@ -31,7 +31,7 @@ use Rattle.rt_retarget.specs.declared.inputs.Inputs.{Inputs}
 use Rattle.rt_retarget.specs.Files.{Given, AreBuilt}
 use Rattle.rt_view.specs.Shapes.{HasSoundShapes}
 use Rattle.rt_retarget.specs.Stages.{AreRead, IsParsed, IsLaid, IsStripped}
-use Rattle.rt_retarget.specs.Ladder.{NoTableIsntRead, BadTableIsntRead, TwoFormsArentRead, NoSizesArentRead, BadSizesArentRead, MoreIsntParsed, NoStreamIsntParsed, UnflattenedIsntLaid, TooManyIsntStripped, MisshapenIsntShaped, UnsoundIsntSound, LabelsArentTaken, StraysArentWished}
+use Rattle.rt_retarget.specs.Ladder.{NoTableIsntRead, BadTableIsntRead, TwoFormsArentRead, NoSizesArentRead, BadSizesArentRead, MoreIsntParsed, NoStreamIsntParsed, UnflattenedIsntLaid, TooManyIsntStripped, MisshapenIsntShaped, UnsoundIsntSound, StraysArentWished}
 use Rattle.rt_retarget.proofs.Assembled.{matched}
 use Rattle.rt_retarget.proofs.Readings.{one_reading}
 
@@ -222,19 +222,12 @@ unsound_sound files inputs library layout strips rule p q found needed is sound 
     first_breaks (pos 1) is.inputs.tables.source (MaskCovers is.layout) rule p q found needed is.broken
     (subst (λ (i : Inputs). BreaksNoRule (pos 1) i.tables.source (MaskCovers is.layout)) (sym e) none)
 
-pub labels_taken : LabelsArentTaken
-labels_taken files inputs library layout strips is taken =
-    let here = taken.sound.shaped.stripped.laid in
-    let laid = same_laid files inputs library here.parsed is.inputs is.library is.layout is.sound.shaped.stripped.laid in
-    let alike = same_layout files inputs library is.layout layout laid here in
-    is.some_label (alike.labels ∙ taken.no_labels)
-
 -- sizes without a fault aren't refused
 not_refused : (asked : Sizes) (key : List ℕ) (cause : TableCause) → RefusesSizes (wishes_fault asked []) (table.BadSizes key cause) → wishes_fault asked [] ≡ None → ⊥
 not_refused asked key cause refused none = let told = rw none at refused in cc
 
 pub strays_wished : StraysArentWished
 strays_wished files inputs library layout strips key cause is wished =
-    let parsed = wished.taken.sound.shaped.stripped.laid.parsed in
-    let e = same_read files inputs library parsed is.inputs is.taken.sound.shaped.stripped.laid.parsed.read in
+    let parsed = wished.sound.shaped.stripped.laid.parsed in
+    let e = same_read files inputs library parsed is.inputs is.sound.shaped.stripped.laid.parsed.read in
     not_refused is.inputs.asked key cause is.refused (subst (λ (i : Inputs). wishes_fault i.asked [] ≡ None) (sym e) wished.no_strays)

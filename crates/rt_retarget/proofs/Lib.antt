@@ -5,7 +5,8 @@ pub mod Flattened
 pub mod Stripped
 pub mod Assembled
 pub mod Excluded
-pub mod Unlabelled
+pub mod Texts
+pub mod Nets
 pub mod Moving
 pub mod OneJob
 pub mod SameJobs

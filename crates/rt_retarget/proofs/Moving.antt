@@ -20,13 +20,14 @@ use Rattle.rt_retarget.specs.declared.source.TheConstants.{STRIP_LIMIT}
 use Rattle.rt_retarget.specs.Files.{Given}
 use Rattle.rt_retarget.specs.Moved.{IsMovedJob, Moved, IsMovedOut, drawing_of}
 use Rattle.rt_retarget.specs.Answers.{IsDone, IsInfeasible}
-use Rattle.rt_retarget.specs.Jobs.{AreMatched, IsReadSource, IsJobOfFiles, IsWrittenFor, inputs_of}
+use Rattle.rt_retarget.specs.Jobs.{AreMatched, IsReadSource, IsJobOfFiles, LabelsFit, IsWrittenFor, inputs_of}
 use Rattle.rt_tech.specs.declared.sizes.Sizes.{Sizes}
 use Rattle.rt_tech.specs.Tech.{DoNotClash}
 use Rattle.rt_retarget.specs.declared.inputs.Inputs.{Inputs}
 use Rattle.rt_retarget.proofs.OneForm.{speak_of_the_same}
 use Rattle.rt_retarget.proofs.Assembled.{matched, wished, few_placed}
-use Rattle.rt_retarget.proofs.Unlabelled.{noted_none}
+use Rattle.rt_retarget.proofs.Nets.{keeps_nets}
+use Rattle.rt_retarget.proofs.Texts.{labels_fit}
 use Rattle.rt_retarget.proofs.Flattened.{drawn_noted, drawn_layout, drawables}
 
 from_zero : (i : ℕ) → i ≡ 0 + i
@@ -105,22 +106,21 @@ module _ (files : Given) (library : Library) (asked : Sizes) (job : Job) (is : I
     stream = is.source_read.stream;
     layout = is.source_read.cell.layout;
     flattened = is.source_read.cell.flattened;
-    no_labels = is.source_read.cell.no_labels;
     sound = is.source_read.cell.clean;
     job_of = is.job_of;
   }
 
-  -- it has no label
-  pub unlabelled : job.view.labels ≡ []
-  unlabelled = is.source_read.cell.is_view.labels ∙ is.source_read.cell.no_labels
+  tables : AreMatched job.source job.target
+  tables = matched files (inputs_of job asked) is.read
 
-  -- so the target has a text pair for each
-  noted : AreNoted job.target job.view.labels
-  noted = noted_none job unlabelled
+  -- its labels can be written
+  pub fitting : LabelsFit job
+  fitting = labels_fit files.source asked library job tables is.source_read
 
   -- a run that ends well
   pub done : (out bytes : List ℕ) → IsWrittenFor job library.name asked.cell bytes → out ≡ bytes → IsDone files out
-  done out bytes w same = record {
+  unfolding moved_job
+  done out bytes w same = let to = moved_out job library asked.cell bytes a_job tables.target.valid.apart fitting.noted w in record {
     inputs = inputs_of job asked;
     library = library;
     layout = is.source_read.cell.layout;
@@ -134,7 +134,9 @@ module _ (files : Given) (library : Library) (asked : Sizes) (job : Job) (is : I
       from = moved_job;
       across = w.drawn.across;
       upwards = w.drawn.upwards;
-      to = moved_out job library asked.cell bytes a_job (matched files (inputs_of job asked) is.read).target.valid.apart noted w;
+      to = to;
+      keeps_nets = keeps_nets is.source_read.cell.layout job is.job_of w.drawn.at w.drawn.across.extent.meets w.drawn.upwards.extent.meets to.drawing.texts.drawn
+          to.drawing.texts.are_drawn to.layout to.is_drawing;
     });
   }
 

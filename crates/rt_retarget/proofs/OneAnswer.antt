@@ -3,19 +3,21 @@ use Rattle.std.proofs.Common.{◌≡◌, ℕ, suc, ◌+◌, ◌<◌, ℤ, List, 
 use Rattle.rt_base.specs.declared.plane.Axis.{Axis}
 use Rattle.rt_cells.proofs.Lines.{antisymmetric}
 use Rattle.gds_stream.specs.declared.cell.Flat.{Flat}
+use Rattle.gds_stream.specs.declared.cell.Note.{Note}
 use Rattle.gds_stream.specs.declared.library.Library.{Library}
 use Rattle.gds_stream.specs.Written.{written}
 use Rattle.rt_carry.specs.Shapes.{shape_of}
+use Rattle.rt_carry.specs.Texts.{AreNotesOf}
 use Rattle.rt_view.specs.declared.job.Job.{Job}
+use Rattle.rt_view.specs.declared.shapes.View.{View}
 use Rattle.rt_view.specs.Job.{strips_of}
 use Rattle.rt_place.specs.Placing.{NoneMeetOf}
 use Rattle.rt_rows.specs.declared.row.Var.{Var}
-use Rattle.rt_rows.specs.declared.row.Var.TheVariants.{L, R, B, T}
-use Rattle.rt_strips.specs.Placed.{Placed}
+use Rattle.rt_strips.specs.Placed.{Placed, placed}
 use Rattle.rt_strips.specs.Standing.{IsStrip}
 use Rattle.rt_tech.specs.declared.sizes.Sizes.{Sizes}
 use Rattle.rt_tech.specs.declared.table.Tech.{Tech}
-use Rattle.rt_template.specs.Drawing.{drawn_area, drawn_from, drawn}
+use Rattle.rt_template.specs.Drawing.{drawn_from, drawn}
 use Rattle.rt_template.specs.Horizontal.{IsLeastAcross}
 use Rattle.rt_template.specs.Vertical.{HaveSameSides, MeetsUpwards, IsLeastUpwards}
 use Rattle.rt_template.proofs.Columns.{meets_moved}
@@ -23,7 +25,7 @@ use Rattle.rt_retarget.specs.declared.answer.Outcome.TheVariants.{Done, Infeasib
 use Rattle.rt_retarget.specs.Moved.{drawing_of}
 use Rattle.rt_retarget.specs.OneAnswer.{AreSameJobs, InfeasibleIsntDone, InfeasibleAlongOne, DoneIsOne, OneOutcome}
 use Rattle.rt_retarget.proofs.OneJob.{one_job}
-use Rattle.rt_retarget.proofs.Unlabelled.{texts_none}
+use Rattle.rt_retarget.proofs.Texts.{HasSides, one_area, same_texts}
 use Rattle.rt_retarget.proofs.SameJobs.{same_strips, flipped, is_strip, meets_across, meets_upwards}
 
 module _ (a b : Job) (same : AreSameJobs a b) where
@@ -69,16 +71,6 @@ infeasible_along_one files axis other a b =
 
 -- one drawing: it depends on the sides of the strips alone
 
--- positions have the same sides of a strip
-record HasSides (at other : Var → ℤ) (i : ℕ) : Type 0 where
-  left : at (L i) ≡ other (L i)
-  right : at (R i) ≡ other (R i)
-  bottom : at (B i) ≡ other (B i)
-  top_side : at (T i) ≡ other (T i)
-
-one_area : (grid : ℤ) (at other : Var → ℤ) (i : ℕ) → HasSides at other i → drawn_area grid at i ≡ drawn_area grid other i
-one_area grid at other i s = rw (s.left, s.right, s.bottom, s.top_side) refl
-
 one_drawn : (grid : ℤ) (at other : Var → ℤ) (n : ℕ) (strips : List Placed) → ((i : ℕ) → i < length strips → HasSides at other (n + i))
     → drawn_from grid at n strips ≡ drawn_from grid other n strips
 one_drawn grid at other n [] sides = refl
@@ -114,6 +106,13 @@ module _ (a b : Job) (same : AreSameJobs a b) (at other : Var → ℤ) (across :
       let sides = one_drawn a.target.grid at other 0 (strips_of a) (λ i h. subst (HasSides at other) (omega arith) (all_sides i (record { below_count = h }))) in
       sides ∙ ap (λ (t : Tech). drawn t.grid other (strips_of a)) same.target ∙ ap (drawn b.target.grid other) (same_strips a b same)
 
+  one_list_of_texts : (notes others : List Note) → AreNotesOf a.target (strips_of a) at a.view.labels notes → AreNotesOf b.target (strips_of b) other b.view.labels others
+      → notes ≡ others
+  one_list_of_texts notes others c d =
+      same_texts a.target (strips_of a) at other (λ i h. all_sides i (record { below_count = h })) a.view.labels notes others c
+      (subst (λ (t : Tech). AreNotesOf t (strips_of a) other a.view.labels others) (sym same.target)
+      (subst (λ (v : View). AreNotesOf b.target (map placed v.strips.list) other v.labels others) (sym same.view) d))
+
 pub done_is_one : DoneIsOne
 done_is_one files out other a b =
     let m = a.moved in
@@ -128,8 +127,7 @@ done_is_one files out other a b =
     (c.named ∙ ap (λ (s : Sizes). s.cell) one.one_asked ∙ sym d.named)
     (c.units ∙ ap (λ (t : Tech). t.units) one.same_jobs.target ∙ sym d.units)
     shapes
-    (texts_none m.job m.at m.to.cell.texts (m.from.job_of.view.labels ∙ m.from.no_labels) c.texts
-    ∙ sym (texts_none n.job n.at n.to.cell.texts (n.from.job_of.view.labels ∙ n.from.no_labels) d.texts)) in
+    (one_list_of_texts m.job n.job one.same_jobs m.at n.at m.across n.across m.upwards n.upwards m.to.cell.texts n.to.cell.texts c.texts d.texts) in
     m.to.bytes ∙ ap written cell ∙ sym n.to.bytes
 
 pub one_outcome : OneOutcome

@@ -89,7 +89,7 @@ one_job files asked library job asked' library' job' m n =
     let view : IsViewOf m.layout job'.source job.view = subst (λ (s : Tech). IsViewOf m.layout s job.view) read.source m.job_of.view in
     let strips = strips_are_one_list (IsStripCell n.layout job'.source) (suc (mask_count job'.source)) (strips_of job) (strips_of job')
     (strips_too m.layout n.layout alike job'.source (strips_of job) view.strips.strips_are) n.job_of.view.strips.strips_are in
-    let labels = view.labels ∙ m.no_labels ∙ sym n.no_labels ∙ sym n.job_of.view.labels in
+    let labels = view.labels ∙ alike.labels ∙ sym n.job_of.view.labels in
     let same = one_view m.layout n.layout alike job'.source job.view job'.view view n.job_of.view (one_list job.view.strips.list job'.view.strips.list strips) labels in
     let climbs : AreClimbsOf (strips_of job) job'.climbs = subst (λ (s : List Placed). AreClimbsOf s job'.climbs) (sym strips) n.job_of.climbs in
     record {

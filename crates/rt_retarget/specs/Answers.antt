@@ -1,5 +1,5 @@
 -- What each answer of a retargeting means, of the four files.
-use Rattle.std.specs.Prelude.{◌≡◌, ◌≢◌, ℕ, ℤ, pos, ◌⊎◌, List, []}
+use Rattle.std.specs.Prelude.{◌≡◌, ℕ, ℤ, pos, ◌⊎◌, List, []}
 use Rattle.rt_base.specs.declared.plane.Axis.{Axis}
 use Rattle.rt_base.specs.declared.plane.Cell.{Cell}
 use Rattle.rt_base.specs.declared.plane.Rect.{Rect}
@@ -40,7 +40,7 @@ use Rattle.rt_retarget.specs.declared.answer.Fault.TheVariants.{TableToml, BadTa
 use Rattle.rt_retarget.specs.declared.inputs.Inputs.{Inputs}
 use Rattle.rt_retarget.specs.declared.source.TheConstants.{STRIP_LIMIT}
 use Rattle.rt_retarget.specs.Files.{Given, AreTables, AreBuilt}
-use Rattle.rt_retarget.specs.Stages.{AreRead, IsParsed, IsLaid, IsStripped, IsShaped, IsSound, IsTaken, IsWished}
+use Rattle.rt_retarget.specs.Stages.{AreRead, IsParsed, IsLaid, IsStripped, IsShaped, IsSound, IsWished}
 use Rattle.rt_retarget.specs.Moved.{IsMovedJob, Moved}
 
 -- the bytes aren't a TOML document
@@ -134,26 +134,13 @@ pub record IsUnsound (files : Given) (rule : RuleName) (p q : Cell) (found neede
   pub shaped : IsShaped files inputs library layout strips
   pub broken : IsFirstBreach (pos 1) inputs.tables.source (MaskCovers layout) rule p q found needed
 
--- the layout is sound, but has a label: labels aren't moved yet
-pub record HasLabels (files : Given) : Type 0 where
-  pub inputs : Inputs
-  pub library : Library
-  pub layout : Layout
-  pub strips : List Placed
-  pub sound : IsSound files inputs library layout strips
-  pub some_label : layout.labels ≢ []
-
--- the files ask for what isn't built yet
-abbrev pub IsNotBuilt : Given → Type 0
-IsNotBuilt files = AskForMore files ⊎ HasLabels files
-
--- the layout is taken, but the sizes file asks for sizes of devices that the cell doesn't have: the first such entry
+-- the layout is sound, but the sizes file asks for sizes of devices that the cell doesn't have: the first such entry
 pub record HasStraySizes (files : Given) (key : List ℕ) (cause : TableCause) : Type 0 where
   pub inputs : Inputs
   pub library : Library
   pub layout : Layout
   pub strips : List Placed
-  pub taken : IsTaken files inputs library layout strips
+  pub sound : IsSound files inputs library layout strips
   pub refused : RefusesSizes (wishes_fault inputs.asked []) (table.BadSizes key cause)
 
 -- nothing is refused, and the bytes are the source, moved
@@ -188,7 +175,7 @@ IsFaultOf files (BadTable which key cause) = IsBadTable files which key cause
 IsFaultOf files (TablesDiffer key) = AreOfTwoForms files key
 IsFaultOf files SizesToml = HasNoSizes files
 IsFaultOf files (BadSizes key cause) = HasBadSizes files key cause ⊎ HasStraySizes files key cause
-IsFaultOf files NotBuilt = IsNotBuilt files
+IsFaultOf files NotBuilt = AskForMore files
 IsFaultOf files (BadStream offset cause) = IsNoStream files offset cause
 IsFaultOf files (Unsupported offset odd) = IsNotFlattened files (flat.Unsupported offset odd)
 IsFaultOf files (NoSuchStructure name) = IsNotFlattened files (flat.NoSuchStructure name)

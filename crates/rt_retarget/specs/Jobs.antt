@@ -1,5 +1,5 @@
 -- The job of the four files, what is written for it, and what functions on the way are told and tell.
-use Rattle.std.specs.Prelude.{◌≡◌, ℕ, ℤ, pos, ◌≤◌, List, [], None, length, map}
+use Rattle.std.specs.Prelude.{◌≡◌, ℕ, ℤ, pos, ◌≤◌, List, [], None, length, map, All}
 use Rattle.gds_flat.specs.declared.error.FlatError.{FlatError}
 use Rattle.gds_flat.specs.declared.error.FlatError.TheVariants as flat
 use Rattle.gds_flat.specs.Refused.{IsFlattened}
@@ -9,6 +9,7 @@ use Rattle.gds_stream.specs.Contents.{Stream}
 use Rattle.gds_stream.specs.Written.{OneCell, written}
 use Rattle.rt_keys.specs.declared.error.TableError.{TableError}
 use Rattle.rt_keys.specs.declared.error.TableError.TheVariants as table
+use Rattle.rt_layout.specs.declared.layout.Label.{Label}
 use Rattle.rt_layout.specs.declared.layout.Layout.{Layout}
 use Rattle.rt_layout.specs.Covering.{MaskCovers}
 use Rattle.rt_view.specs.declared.shapes.View.{View}
@@ -31,13 +32,14 @@ use Rattle.rt_tech.specs.Tech.{mask_count, IsMeasured, IsValidTech}
 use Rattle.rt_template.specs.Horizontal.{IsLeastAcross}
 use Rattle.rt_template.specs.Vertical.{IsLeastUpwards}
 use Rattle.rt_carry.specs.Drawings.{IsDrawingOf}
+use Rattle.rt_carry.specs.Texts.{AreNoted}
 use Rattle.rt_retarget.specs.declared.answer.Fault.{Fault}
 use Rattle.rt_retarget.specs.declared.answer.Fault.TheVariants.{TableToml, BadTable, TablesDiffer, SizesToml, BadSizes, Unsupported, NoSuchStructure, Cyclic, UnmappedLayer, ArrayStep, CoordinateRange, TooDeep, TooMany, OutOfMemory}
 use Rattle.rt_retarget.specs.declared.answer.What.TheVariants.{Items}
 use Rattle.rt_retarget.specs.declared.inputs.Inputs.{Inputs}
 use Rattle.rt_retarget.specs.declared.source.TheConstants.{STRIP_LIMIT}
 use Rattle.rt_retarget.specs.Files.{Given, AreBuilt}
-use Rattle.rt_retarget.specs.Stages.{AreRead, IsParsed, IsLaid, IsStripped, IsShaped, IsTaken}
+use Rattle.rt_retarget.specs.Stages.{AreRead, IsParsed, IsLaid, IsStripped, IsShaped, IsSound}
 use Rattle.rt_retarget.specs.Answers.{IsNoDocument, IsFaultOf}
 
 -- a valid table, and what the layers below ask of it
@@ -129,9 +131,9 @@ abbrev pub IsFaultOfView : Inputs → View → Fault → Type 0
 IsFaultOfView inputs view fault = (files : Given) (library : Library) (layout : Layout) → IsViewOf layout inputs.tables.source view
     → IsShaped files inputs library layout (map placed view.strips.list) → IsFaultOf files fault
 
-abbrev pub IsFaultOfTaken : Inputs → Fault → Type 0
-IsFaultOfTaken inputs fault = (files : Given) (library : Library) (layout : Layout) (strips : List Placed)
-    → IsTaken files inputs library layout strips → IsFaultOf files fault
+abbrev pub IsFaultOfSound : Inputs → Fault → Type 0
+IsFaultOfSound inputs fault = (files : Given) (library : Library) (layout : Layout) (strips : List Placed)
+    → IsSound files inputs library layout strips → IsFaultOf files fault
 
 -- the view of a layout that has few strips and breaks no rule of the source's table
 pub record IsSoundView (inputs : Inputs) (layout : Layout) (view : View) : Type 0 where
@@ -139,14 +141,13 @@ pub record IsSoundView (inputs : Inputs) (layout : Layout) (view : View) : Type 
   pub few : length view.strips.list ≤ STRIP_LIMIT
   pub clean : BreaksNoRule (pos 1) inputs.tables.source (MaskCovers layout)
 
--- the view is that of the library's cell, which is sound and has no label
+-- the view is that of the library's cell, which is sound
 pub record IsCheckedCell (inputs : Inputs) (library : Library) (view : View) : Type 0 where
   pub layout : Layout
   pub flattened : IsFlattened library.structures inputs.asked.cell inputs.tables.source layout
   pub is_view : IsViewOf layout inputs.tables.source view
   pub few : length view.strips.list ≤ STRIP_LIMIT
   pub clean : BreaksNoRule (pos 1) inputs.tables.source (MaskCovers layout)
-  pub no_labels : layout.labels ≡ []
   pub no_strays : wishes_fault inputs.asked [] ≡ None
 
 -- what is read of a source whose cell is moved, by inputs that were read
@@ -164,6 +165,11 @@ pub record IsJobOfFiles (files : Given) (library : Library) (asked : Sizes) (job
   pub read : AreRead files (inputs_of job asked)
   pub source_read : IsReadSource files.source (inputs_of job asked) library job.view
   pub job_of : IsJobOf source_read.cell.layout job
+
+-- each label of a job can be written: the target has a layer and a text type for its mask, and its text fits a record
+pub record LabelsFit (job : Job) : Type 0 where
+  pub noted : AreNoted job.target job.view.labels
+  pub short : All (λ (label : Label). length label.text ≤ 65530) job.view.labels
 
 -- the cell is the drawing of a job at its least positions
 pub record IsDrawnFor (job : Job) (library_name cell : List ℕ) (flat : Flat) : Type 0 where

@@ -15,8 +15,8 @@ use Rattle.rt_tech.specs.declared.table.Which.{Which}
 use Rattle.rt_view.specs.declared.shapes.Shape.{Shape}
 use Rattle.rt_retarget.specs.declared.inputs.Inputs.{Inputs}
 use Rattle.rt_retarget.specs.Files.{Given}
-use Rattle.rt_retarget.specs.Stages.{AreRead, IsParsed, IsLaid, IsStripped, IsShaped, IsSound, IsTaken, IsWished}
-use Rattle.rt_retarget.specs.Answers.{IsNoTable, IsBadTable, AreOfTwoForms, HasNoSizes, HasBadSizes, AskForMore, IsNoStream, IsNotFlattened, HasTooManyStrips, IsMisshapen, IsUnsound, HasLabels, HasStraySizes}
+use Rattle.rt_retarget.specs.Stages.{AreRead, IsParsed, IsLaid, IsStripped, IsShaped, IsSound, IsWished}
+use Rattle.rt_retarget.specs.Answers.{IsNoTable, IsBadTable, AreOfTwoForms, HasNoSizes, HasBadSizes, AskForMore, IsNoStream, IsNotFlattened, HasTooManyStrips, IsMisshapen, IsUnsound, HasStraySizes}
 
 -- files of which a table is refused aren't read
 abbrev pub NoTableIsntRead : Type 0
@@ -62,11 +62,6 @@ MisshapenIsntShaped = (files : Given) (inputs : Inputs) (library : Library) (lay
 abbrev pub UnsoundIsntSound : Type 0
 UnsoundIsntSound = (files : Given) (inputs : Inputs) (library : Library) (layout : Layout) (strips : List Placed) (rule : RuleName) (p q : Cell) (found needed : ℤ)
     → IsUnsound files rule p q found needed → IsSound files inputs library layout strips → ⊥
-
--- files whose layout has a label aren't taken
-abbrev pub LabelsArentTaken : Type 0
-LabelsArentTaken = (files : Given) (inputs : Inputs) (library : Library) (layout : Layout) (strips : List Placed)
-    → HasLabels files → IsTaken files inputs library layout strips → ⊥
 
 -- files with stray sizes don't ask for what the cell has
 abbrev pub StraysArentWished : Type 0

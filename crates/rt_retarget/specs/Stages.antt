@@ -45,12 +45,7 @@ pub record IsSound (files : Given) (inputs : Inputs) (library : Library) (layout
   pub shaped : IsShaped files inputs library layout strips
   pub clean : BreaksNoRule (pos 1) inputs.tables.source (MaskCovers layout)
 
--- and the layout has no label: labels aren't moved yet
-pub record IsTaken (files : Given) (inputs : Inputs) (library : Library) (layout : Layout) (strips : List Placed) : Type 0 where
-  pub sound : IsSound files inputs library layout strips
-  pub no_labels : layout.labels ≡ []
-
 -- and the sizes file asks for no device, as the cell has none
 pub record IsWished (files : Given) (inputs : Inputs) (library : Library) (layout : Layout) (strips : List Placed) : Type 0 where
-  pub taken : IsTaken files inputs library layout strips
+  pub sound : IsSound files inputs library layout strips
   pub no_strays : wishes_fault inputs.asked [] ≡ None

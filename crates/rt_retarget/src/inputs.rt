@@ -7,7 +7,7 @@ ghost use Rattle.rt_sizes.specs.SizesFile.{DescribesSizes};
 ghost use Rattle.rt_sizes.specs.Wishes.{wishes_fault};
 ghost use Rattle.rt_view.specs.Shapes.{IsWiring};
 ghost use Rattle.rt_retarget.specs.Files.{AreTables, AreFiles, AreBuilt, IsTargetOf};
-ghost use Rattle.rt_retarget.specs.Jobs.{IsTableFaultOf, IsFormFaultOf, IsSizesFaultOf, IsFaultOfTarget, IsFaultOfTables, IsFaultOfInputs, IsFaultOfTaken};
+ghost use Rattle.rt_retarget.specs.Jobs.{IsTableFaultOf, IsFormFaultOf, IsSizesFaultOf, IsFaultOfTarget, IsFaultOfTables, IsFaultOfInputs, IsFaultOfSound};
 
 use crate::answer::Fault;
 use crate::refusals::{sizes_refusal, table_refusal};
@@ -128,7 +128,7 @@ fn is_wiring(mask: &Mask) -> bool
 /// That the sizes file has sizes for no device, since the cell has none; or the first that it has.
 pub fn check_strays(alloc: Global, inputs: &Inputs) -> Result<(), Fault>
     ensures none { OnOk result (wishes_fault inputs.now.asked [] ≡ None) }
-    ensures refused { IfErr result (IsFaultOfTaken inputs.now) }
+    ensures refused { IfErr result (IsFaultOfSound inputs.now) }
 {
     match wishes(alloc, &inputs.asked, &[]) {
         Ok(_) => Ok(()),

@@ -24,13 +24,13 @@ struct Work {
     asked: Sizes,
 }
 
-/// Moves the cell of a source stream to the target's rules, at the least positions that keep its arrangement.
+/// Moves the cell of a source stream to the target's rules, at the least positions that keep its arrangement, with its nets and labels.
 ///
 /// The four files are the source stream, its rule table, the target's rule table and the sizes file. They are looked at
 /// in this order, and the first that holds is answered: `TableToml` and `BadTable` of the source's table, then of the
 /// target's; `TablesDiffer`; `SizesToml` and `BadSizes`; `NotBuilt`, where a mask is neither metal nor a cut or a mirror is
 /// asked for; `BadStream`; the refusals of the flattening, `TooMany` of items among them; `TooMany` of strips; `SourceShape`; `SourceRule`;
-/// `NotBuilt`, where the layout has a label; `BadSizes`, where there are sizes for a device;
+/// `BadSizes`, where there are sizes for a device;
 /// `Infeasible` across and upwards, where no positions meet the template of that axis. `OutOfMemory` comes only for want of memory, and want of memory is
 /// answered in no other form. No planes are read yet, so the ledger of reads stays as it is.
 pub fn retarget<L>(

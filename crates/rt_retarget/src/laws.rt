@@ -1,6 +1,6 @@
 //! The laws of this crate, each a function without a body whose contract is the law: what is refused at a stage isn't at the next one, and
 //! where nothing is refused there is one job and one outcome.
-ghost use Rattle.rt_retarget.specs.Ladder.{NoTableIsntRead, BadTableIsntRead, TwoFormsArentRead, NoSizesArentRead, BadSizesArentRead, MoreIsntParsed, NoStreamIsntParsed, UnflattenedIsntLaid, TooManyIsntStripped, MisshapenIsntShaped, UnsoundIsntSound, LabelsArentTaken, StraysArentWished};
+ghost use Rattle.rt_retarget.specs.Ladder.{NoTableIsntRead, BadTableIsntRead, TwoFormsArentRead, NoSizesArentRead, BadSizesArentRead, MoreIsntParsed, NoStreamIsntParsed, UnflattenedIsntLaid, TooManyIsntStripped, MisshapenIsntShaped, UnsoundIsntSound, StraysArentWished};
 ghost use Rattle.rt_retarget.specs.OneAnswer.{OneJob, InfeasibleIsntDone, InfeasibleAlongOne, DoneIsOne, OneOutcome};
 
 /// Law: files of which a table or the sizes file is refused, or whose tables are of two forms, aren't read.
@@ -19,13 +19,12 @@ pub fn refused_sources_have_no_layout()
     ensures unflattened { UnflattenedIsntLaid }
 {}
 
-/// Law: files that are refused for their strips, for a shape, for a broken rule, for what isn't moved yet or for stray sizes aren't moved. With the two laws
+/// Law: files that are refused for their strips, for a shape, for a broken rule or for stray sizes aren't moved. With the two laws
 /// above, a refusal at one stage excludes each answer of a later stage.
 pub fn refused_layouts_are_not_moved()
     ensures too_many { TooManyIsntStripped }
     ensures misshapen { MisshapenIsntShaped }
     ensures unsound { UnsoundIsntSound }
-    ensures more { LabelsArentTaken }
     ensures strays { StraysArentWished }
 {}
 

@@ -1,9 +1,9 @@
 //! The output: the drawing of a job at its least positions, and its stream.
-ghost use Rattle.std.specs.Prelude.{◌≡◌, ◌<◌, ◌≤◌, [], length, IfOk, IfErr};
+ghost use Rattle.std.specs.Prelude.{◌<◌, ◌≤◌, length, IfOk, IfErr};
 ghost use Rattle.rt_view.specs.Job.{strips_of, IsJob};
 ghost use Rattle.rt_place.specs.Placing.{ArePositionsOf, IsPlaceErrorOf};
 ghost use Rattle.rt_retarget.specs.declared.source.TheConstants.{STRIP_LIMIT};
-ghost use Rattle.rt_retarget.specs.Jobs.{IsDrawnFor, IsWrittenFor};
+ghost use Rattle.rt_retarget.specs.Jobs.{LabelsFit, IsDrawnFor, IsWrittenFor};
 
 use gds_stream::{Flat, write_stream};
 use rt_base::{OutOfMemory, Text};
@@ -13,7 +13,7 @@ use rt_rows::Positions;
 use rt_view::Job;
 use std::alloc::Global;
 
-/// The stream of the drawing of a job without labels at its least positions, in the library and under the cell's name; or the axis along which it has none.
+/// The stream of the drawing of a job at its least positions, in the library and under the cell's name; or the axis along which it has none.
 pub fn stream_of(
     alloc: Global,
     job: &Job,
@@ -21,7 +21,7 @@ pub fn stream_of(
     cell: &Text,
 ) -> Result<Vec<u8>, PlaceError>
     requires job { IsJob job.now }
-    requires unlabelled { job.now.view.labels ≡ [] }
+    requires labels { LabelsFit job.now }
     requires few { length (strips_of job.now) ≤ STRIP_LIMIT }
     requires named { 0 < length cell.now }
     requires cell_short { length cell.now ≤ 65530 }
@@ -35,7 +35,7 @@ pub fn stream_of(
 }
 
 // The stream of the drawing at the positions.
-#[tactic(auto, using(crate::proofs::Unlabelled::texts_short))]
+#[tactic(auto, using(crate::proofs::Texts::texts_short))]
 fn drawn_stream(
     alloc: Global,
     job: &Job,
@@ -44,7 +44,7 @@ fn drawn_stream(
     cell: &Text,
 ) -> Result<Vec<u8>, OutOfMemory>
     requires job { IsJob job.now }
-    requires unlabelled { job.now.view.labels ≡ [] }
+    requires labels { LabelsFit job.now }
     requires positions { ArePositionsOf job.now at.now }
     requires named { 0 < length cell.now }
     requires cell_short { length cell.now ≤ 65530 }
@@ -56,7 +56,6 @@ fn drawn_stream(
 }
 
 // The drawing at the positions.
-#[tactic(auto, using(crate::proofs::Unlabelled::noted_none))]
 fn drawing_of(
     alloc: Global,
     job: &Job,
@@ -65,7 +64,7 @@ fn drawing_of(
     cell: &Text,
 ) -> Result<Flat, OutOfMemory>
     requires job { IsJob job.now }
-    requires unlabelled { job.now.view.labels ≡ [] }
+    requires labels { LabelsFit job.now }
     requires positions { ArePositionsOf job.now at.now }
     ensures { IfOk result (IsDrawnFor job.now library.now cell.now) }
 {

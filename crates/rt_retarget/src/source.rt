@@ -1,5 +1,5 @@
 //! The source: its library, the flat layout of its cell, the layout's view, and the rules that it keeps.
-ghost use Rattle.std.specs.Prelude.{◌≡◌, ◌≢◌, ◌≤◌, pos, length, [], IfOk, IfErr, OnOk, MatchBool};
+ghost use Rattle.std.specs.Prelude.{◌≡◌, ◌≤◌, pos, length, IfOk, IfErr, OnOk};
 ghost use Rattle.gds_flat.specs.Drawn.{AreDrawable};
 ghost use Rattle.gds_flat.specs.Refused.{IsFlattened};
 ghost use Rattle.gds_stream.specs.Contents.{Stream};
@@ -37,7 +37,7 @@ pub struct Source {
     pub view: View,
 }
 
-/// What the source holds, where the files ask for what is built, its cell is sound by the source's table and has no label, and no
+/// What the source holds, where the files ask for what is built, its cell is sound by the source's table, and no
 /// sizes are asked for devices; or the first of these that fails.
 pub fn read_source(alloc: Global, bytes: &[u8], inputs: &Inputs) -> Result<Source, Fault>
     requires { AreMatched inputs.now.tables.source inputs.now.tables.target }
@@ -65,7 +65,7 @@ fn read_library(alloc: Global, source: &[u8], inputs: &Inputs) -> Result<Library
     }
 }
 
-// The view of the library's cell, where its layout is sound and has no label.
+// The view of the library's cell, where its layout is sound and no sizes are asked for devices.
 fn cell_view(alloc: Global, library: &Library, inputs: &Inputs) -> Result<View, Fault>
     requires tables { AreMatched inputs.now.tables.source inputs.now.tables.target }
     requires built { AreBuilt inputs.now.tables.source inputs.now.asked }
@@ -75,18 +75,8 @@ fn cell_view(alloc: Global, library: &Library, inputs: &Inputs) -> Result<View, 
 {
     let layout = flat_cell(alloc, library, inputs)?;
     let view = sound_view(alloc, &layout, inputs)?;
-    if has_labels(&view) {
-        return Err(Fault::NotBuilt);
-    }
     check_strays(alloc, inputs)?;
     Ok(view)
-}
-
-// Whether the view has a label.
-fn has_labels(view: &View) -> bool
-    ensures { MatchBool result (view.now.labels ≢ []) (view.now.labels ≡ []) }
-{
-    !view.labels.as_slice().is_empty()
 }
 
 // The flat layout of the library's cell by the source's table, or why it isn't flattened.

@@ -2,7 +2,7 @@ use Rattle.std.proofs.Common.{subst}
 use Rattle.rt_place.specs.Placing.{IsPlaceErrorOf}
 use Rattle.rt_retarget.specs.Jobs.{given, inputs_of}
 use Rattle.rt_retarget.proofs.Assembled.{cell_of, library_short}
-use Rattle.rt_retarget.proofs.Moving.{a_job, few_strips, unlabelled, done, infeasible}
+use Rattle.rt_retarget.proofs.Moving.{a_job, few_strips, fitting, done, infeasible}
 use Rattle.rt_retarget.proofs.job.retarget.Goals as goal
 
 pub stream_of-requires-clause-job : goal.stream_of-requires-clause-job
@@ -10,10 +10,10 @@ stream_of-requires-clause-job g c =
     let work = c.in_ok-work.work in
     a_job (given c.args.source.now c.args.stable.now c.args.ttable.now c.args.sizes.now) work.library work.asked work.job c.in_ok-work.ensures.job
 
-pub stream_of-requires-clause-unlabelled : goal.stream_of-requires-clause-unlabelled
-stream_of-requires-clause-unlabelled g c =
+pub stream_of-requires-clause-labels : goal.stream_of-requires-clause-labels
+stream_of-requires-clause-labels g c =
     let work = c.in_ok-work.work in
-    unlabelled (given c.args.source.now c.args.stable.now c.args.ttable.now c.args.sizes.now) work.library work.asked work.job c.in_ok-work.ensures.job
+    fitting (given c.args.source.now c.args.stable.now c.args.ttable.now c.args.sizes.now) work.library work.asked work.job c.in_ok-work.ensures.job
 
 pub stream_of-requires-clause-few : goal.stream_of-requires-clause-few
 stream_of-requires-clause-few g c =

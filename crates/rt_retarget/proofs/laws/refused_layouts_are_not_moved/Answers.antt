@@ -1,4 +1,4 @@
-use Rattle.rt_retarget.proofs.Excluded.{too_many_stripped, misshapen_shaped, unsound_sound, labels_taken, strays_wished}
+use Rattle.rt_retarget.proofs.Excluded.{too_many_stripped, misshapen_shaped, unsound_sound, strays_wished}
 use Rattle.rt_retarget.proofs.laws.refused_layouts_are_not_moved.Goals as goal
 
 pub returns-clause-too_many : goal.returns-clause-too_many
@@ -9,9 +9,6 @@ returns-clause-misshapen c = misshapen_shaped
 
 pub returns-clause-unsound : goal.returns-clause-unsound
 returns-clause-unsound c = unsound_sound
-
-pub returns-clause-more : goal.returns-clause-more
-returns-clause-more c = labels_taken
 
 pub returns-clause-strays : goal.returns-clause-strays
 returns-clause-strays c = strays_wished

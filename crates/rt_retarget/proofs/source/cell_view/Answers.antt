@@ -1,6 +1,6 @@
 use Rattle.std.proofs.lemmas.Result.{err_from_is_err_and}
 use Rattle.gds_flat_laws.proofs.NearLabels.{labels_are_near}
-use Rattle.rt_retarget.proofs.Assembled.{plain, label_fault, taken, checked}
+use Rattle.rt_retarget.proofs.Assembled.{plain, sound, checked}
 use Rattle.rt_retarget.proofs.source.cell_view.Goals as goal
 
 pub sound_view-requires-clause-points : goal.sound_view-requires-clause-points
@@ -13,20 +13,14 @@ returns-in_err-view-clause-refused c =
     let p = err_from_is_err_and c.from_residual-in_err-view.result c.from_residual-in_err-view.ensures.1 in
     rw (p.1, p.2) (λ files parsed. c.in_err-view.ensures.refused files c.args.library.now (record { parsed = parsed; flattened = c.in_ok-layout.ensures.flat }))
 
-pub returns-then-has_labels-clause-refused : goal.returns-then-has_labels-clause-refused
-returns-then-has_labels-clause-refused c =
-    let some = rw c.if-has_labels.true at c.has_labels.ensures in
-    label_fault c.args.inputs.now c.args.library.now c.in_ok-layout.layout c.in_ok-view.view c.in_ok-layout.ensures.flat c.in_ok-view.ensures.view some
-
 pub returns-in_err-check_strays-clause-refused : goal.returns-in_err-check_strays-clause-refused
 returns-in_err-check_strays-clause-refused c =
     let p = err_from_is_err_and c.from_residual-in_err-check_strays.result c.from_residual-in_err-check_strays.ensures.1 in
-    let none = rw c.if-has_labels.false at c.has_labels.ensures in
     rw (p.1, p.2) (λ files parsed.
     c.in_err-check_strays.ensures.refused files c.args.library.now c.in_ok-layout.layout _
-    (taken files c.args.inputs.now c.args.library.now c.in_ok-layout.layout c.in_ok-view.view parsed c.in_ok-layout.ensures.flat c.in_ok-view.ensures.view none))
+    (sound files c.args.inputs.now c.args.library.now c.in_ok-layout.layout c.in_ok-view.view (record { parsed = parsed; flattened = c.in_ok-layout.ensures.flat })
+    c.in_ok-view.ensures.view))
 
 pub returns-clause-view : goal.returns-clause-view
 returns-clause-view c =
-    let none = rw c.if-has_labels.false at c.has_labels.ensures in
-    checked c.args.inputs.now c.args.library.now c.in_ok-layout.layout c.in_ok-view.view c.in_ok-layout.ensures.flat c.in_ok-view.ensures.view none c.in_ok-check_strays.ensures.none
+    checked c.args.inputs.now c.args.library.now c.in_ok-layout.layout c.in_ok-view.view c.in_ok-layout.ensures.flat c.in_ok-view.ensures.view c.in_ok-check_strays.ensures.none

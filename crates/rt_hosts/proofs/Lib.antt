@@ -1,0 +1,6 @@
+mod Reading
+mod Listing
+mod Numbering
+mod Looking
+mod Holding
+mod Telling
